@@ -1,0 +1,10 @@
+pub mod WordLaws
+pub mod WordLists
+pub mod LaneLaws
+pub mod FileMaps
+pub mod CodeLaws
+pub mod RowLaws
+pub mod Perms
+pub mod BagLaws
+pub mod OperatorLaws
+pub mod Listing

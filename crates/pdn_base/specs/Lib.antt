@@ -1,0 +1,13 @@
+pub mod Bounds
+pub mod Codes
+pub mod Values
+pub mod Conditions
+pub mod Totals
+pub mod Bags
+pub mod Operators
+pub mod Words
+pub mod Lanes
+pub mod Numbers
+pub mod Outside
+pub mod Statuses
+pub mod Texts
