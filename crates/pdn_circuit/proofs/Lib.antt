@@ -1,0 +1,16 @@
+pub mod ValueLaws
+pub mod DepthLaws
+pub mod CountLaws
+pub mod Reading
+pub mod PlainLaws
+pub mod CompareLaws
+pub mod Building
+pub mod Making
+pub mod Counters
+pub mod Runs
+pub mod Words
+pub mod CounterMeaning
+pub mod LayMeaning
+pub mod Comparing
+pub mod Summing
+pub mod LayPlain

@@ -1,0 +1,9 @@
+pub mod Gates
+pub mod Depths
+pub mod Blocks
+pub mod Plain
+pub mod Compare
+pub mod Building
+pub mod Builder
+pub mod Laying
+pub mod Meaning

@@ -1,0 +1,23 @@
+//! Circuits of words of 64 lanes, and what they mean in plain.
+#![tactic(auto)]
+
+mod adding;
+mod builder;
+mod circuit;
+mod compare;
+mod gate;
+mod laws;
+mod lay;
+mod run;
+mod sums;
+mod tally;
+#[cfg(test)]
+mod tests;
+
+pub use builder::{Builder, MOST_GATES};
+pub use circuit::{Circuit, Inputs};
+pub use gate::Gate;
+pub use laws::block_laws;
+pub use lay::Pick;
+pub use run::eval;
+pub use tally::BuildErr;
