@@ -1,0 +1,2 @@
+pub mod TapeWords
+pub mod SectionWords
