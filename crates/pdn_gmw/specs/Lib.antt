@@ -1,0 +1,9 @@
+pub mod Shares
+pub mod Halves
+pub mod Rounds
+pub mod Steps
+pub mod Given
+pub mod Known
+pub mod Places
+pub mod Pairs
+pub mod SmallRun

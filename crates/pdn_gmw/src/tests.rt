@@ -1,0 +1,234 @@
+ghost use Rattle.std.specs.Prelude.{◌≡◌, length, IfOk, IsTrue};
+ghost use Rattle.pdn_gmw.specs.declared.stage.Stage.TheVariants.{Wanting, Over};
+ghost use Rattle.pdn_base.specs.declared.site.Site.TheVariants.{A, B};
+ghost use Rattle.pdn_circuit.specs.Gates.{is_input_of, input_count, given_count};
+ghost use Rattle.pdn_gmw.specs.Pairs.{ArePair};
+
+use crate::{FrameErr, Half, Step, run_pair};
+use pdn_base::{Memory, Site, Word};
+use pdn_circuit::{Builder, Circuit, Gate};
+use pdn_dealer::{ChaChaDeal, Deal, ListDeal, section_len};
+use std::alloc::Global;
+use std::test::Fail;
+
+fn words(alloc: Global, numbers: &[u64]) -> Result<Vec<Word>, Memory>
+    ensures { IfOk result (λ words. words.items ≡ numbers.now) }
+{
+    let words = numbers.iter().map(|n| Word::from_u64(*n)).collect(alloc)?;
+    Ok(words)
+}
+
+fn deal_words(alloc: Global, numbers: &[u64]) -> Result<ListDeal, Fail> {
+    let mut entries = Vec::new(alloc);
+    entries.push((0, 0, words(alloc, numbers)?))?;
+    Ok(ListDeal::new(entries))
+}
+
+fn takes(circuit: &Circuit, site: Site) -> usize
+    ensures { result ≡ input_count site circuit.now.gates }
+{
+    circuit
+        .gates
+        .iter()
+        .filter(|gate| is_of(site, gate))
+        .count()
+}
+
+fn is_of(site: Site, gate: &Gate) -> bool
+    ensures { result ≡ is_input_of site gate.now }
+{
+    match (site, gate) {
+        (Site::A, Gate::Input { site: Site::A, .. }) => true,
+        (Site::B, Gate::Input { site: Site::B, .. }) => true,
+        _ => false,
+    }
+}
+
+fn takes_given(circuit: &Circuit) -> usize
+    ensures { result ≡ given_count circuit.now.gates }
+{
+    circuit
+        .gates
+        .iter()
+        .filter(|gate| matches!(gate, Gate::Given { .. }))
+        .count()
+}
+
+// Both halves of a circuit without given words, on the section of ticket 0 and unit 0.
+fn halves<D: Deal>(
+    alloc: Global,
+    circuit: &Circuit,
+    deal: &D,
+    a: &[u64],
+    b: &[u64],
+) -> Result<(Half, Half), Fail>
+    requires a { length a.now ≡ input_count A circuit.now.gates }
+    requires b { length b.now ≡ input_count B circuit.now.gates }
+    requires given { given_count circuit.now.gates ≡ 0 }
+    ensures { IfOk result (λ pair. ArePair pair.0 pair.1) }
+{
+    let section = deal.section(alloc, 0, 0, section_len(circuit))?;
+    let (part_a, part_b) = section.split(alloc, circuit)?;
+    let half_a = Half::new(
+        alloc,
+        circuit,
+        Site::A,
+        words(alloc, a)?,
+        Vec::new(alloc),
+        part_a,
+    )?;
+    let half_b = Half::new(
+        alloc,
+        circuit,
+        Site::B,
+        words(alloc, b)?,
+        Vec::new(alloc),
+        part_b,
+    )?;
+    Ok((half_a, half_b))
+}
+
+// What both halves put out first.
+fn outputs<D: Deal>(
+    alloc: Global,
+    circuit: &Circuit,
+    deal: &D,
+    a: &[u64],
+    b: &[u64],
+) -> Result<(u64, u64), Fail> {
+    let counted = takes(circuit, Site::A) == a.len() && takes(circuit, Site::B) == b.len();
+    if !counted || takes_given(circuit) != 0 {
+        return Ok((0, 0));
+    }
+    let (half_a, half_b) = halves(alloc, circuit, deal, a, b)?;
+    let run = run_pair(alloc, half_a, half_b)?;
+    Ok((first(run.a().outputs()), first(run.b().outputs())))
+}
+
+fn first(words: &[Word]) -> u64 {
+    match words {
+        [word, ..] => word.to_u64(),
+        [] => 0,
+    }
+}
+
+// One And gate of a word of A and a word of B.
+fn one_and(alloc: Global) -> Result<Circuit, Fail> {
+    let mut builder = Builder::new(alloc, 1, 10)?;
+    let x = builder.input(Site::A)?;
+    let y = builder.input(Site::B)?;
+    let z = builder.and(x, y)?;
+    let mut outputs = Vec::new(alloc);
+    outputs.push(z)?;
+    Ok(builder.finish(outputs, true))
+}
+
+// r of both inputs, then a0, a1, b0, b1, c0, then the mask.
+const SECTION: [u64; 8] = [0x0f, 0x33, 0x55, 0x0f, 0x33, 0xff, 0xaa, 0x01];
+
+#[test]
+fn one_and_gate_by_hand(rt: HostRuntime) -> Result<(), Fail> {
+    let alloc = rt.alloc();
+    let circuit = one_and(alloc)?;
+    let deal = deal_words(alloc, &SECTION)?;
+    let (a, b) = outputs(alloc, &circuit, &deal, &[0xf0], &[0x3c])?;
+    assert_eq!(rt; a, 0x79);
+    assert_eq!(rt; b, 0x49);
+    Ok(())
+}
+
+fn sends(half: &mut Half, expected: &[u64]) -> bool {
+    match half.next() {
+        Step::Send(frame) => {
+            frame.len() == expected.len()
+                && frame
+                    .iter()
+                    .zip(expected)
+                    .all(|(word, number)| word.to_u64() == *number)
+        }
+        _ => false,
+    }
+}
+
+fn wants_two(half: &mut Half) -> bool
+    ensures { IsTrue result → half.new.stage ≡ Wanting }
+{
+    match half.next() {
+        Step::Want(2) => true,
+        _ => false,
+    }
+}
+
+fn is_done(half: &mut Half) -> bool
+    ensures { IsTrue result → half.new.stage ≡ Over }
+{
+    match half.next() {
+        Step::Done => true,
+        _ => false,
+    }
+}
+
+#[test]
+fn a_short_frame_is_refused_and_the_right_one_still_taken(rt: HostRuntime) -> Result<(), Fail> {
+    let alloc = rt.alloc();
+    let circuit = one_and(alloc)?;
+    let deal = deal_words(alloc, &SECTION)?;
+    assert!(rt; takes(&circuit, Site::A) == 1 && takes(&circuit, Site::B) == 1);
+    assert!(rt; takes_given(&circuit) == 0);
+    let (mut half_a, mut half_b) = halves(alloc, &circuit, &deal, &[0xf0], &[0x3c])?;
+    assert!(rt; sends(&mut half_a, &[0xaa, 0x00]));
+    assert!(rt; sends(&mut half_b, &[0x00, 0xf0]));
+    assert!(rt; wants_two(&mut half_a));
+    let short = words(alloc, &[0x00])?;
+    match half_a.take(short.as_slice()) {
+        Ok(()) => assert!(rt; false),
+        Err(FrameErr::Length { got, want }) => {
+            assert_eq!(rt; got, 1);
+            assert_eq!(rt; want, 2);
+            let frame = words(alloc, &[0x00, 0xf0])?;
+            assert!(rt; half_a.take(frame.as_slice()).is_ok());
+            assert!(rt; is_done(&mut half_a));
+            let finished = half_a.finish();
+            assert_eq!(rt; finished.outputs(), [Word::from_u64(0x79)].as_slice());
+        }
+    }
+    Ok(())
+}
+
+#[test]
+fn a_circuit_without_and_gates_sends_nothing(rt: HostRuntime) -> Result<(), Fail> {
+    let alloc = rt.alloc();
+    let mut builder = Builder::new(alloc, 0, 10)?;
+    let x = builder.input(Site::A)?;
+    let y = builder.input(Site::B)?;
+    let z = builder.xor(x, y)?;
+    let mut gates = Vec::new(alloc);
+    gates.push(z)?;
+    let circuit = builder.finish(gates, false);
+    let deal = deal_words(alloc, &[7, 9])?;
+    assert!(rt; takes(&circuit, Site::A) == 1 && takes(&circuit, Site::B) == 1);
+    assert!(rt; takes_given(&circuit) == 0);
+    let (mut half_a, mut half_b) = halves(alloc, &circuit, &deal, &[0xf0], &[0x3c])?;
+    assert!(rt; is_done(&mut half_a));
+    assert!(rt; is_done(&mut half_b));
+    let (a, b) = (half_a.finish(), half_b.finish());
+    assert_eq!(rt; a.outputs(), [Word::from_u64(0xf0 ^ 7 ^ 9)].as_slice());
+    assert_eq!(rt; b.outputs(), [Word::from_u64(0x3c ^ 7 ^ 9)].as_slice());
+    Ok(())
+}
+
+#[test]
+fn the_sum_is_the_same_for_every_tape(rt: HostRuntime) -> Result<(), Fail> {
+    let alloc = rt.alloc();
+    let circuit = one_and(alloc)?;
+    let zero = ListDeal::new(Vec::new(alloc));
+    let ones = deal_words(alloc, &[u64::MAX; 8])?;
+    let stream = ChaChaDeal::new([5; 32]);
+    let (a, b) = outputs(alloc, &circuit, &zero, &[0xf0], &[0x3c])?;
+    assert_eq!(rt; a ^ b, 0x30, "zero words");
+    let (a, b) = outputs(alloc, &circuit, &ones, &[0xf0], &[0x3c])?;
+    assert_eq!(rt; a ^ b, 0x30, "words of ones");
+    let (a, b) = outputs(alloc, &circuit, &stream, &[0xf0], &[0x3c])?;
+    assert_eq!(rt; a ^ b, 0x30, "a key stream");
+    Ok(())
+}
