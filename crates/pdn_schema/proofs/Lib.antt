@@ -1,0 +1,12 @@
+pub mod Cutting
+pub mod WordLaws
+pub mod NameLaws
+pub mod CauseLaws
+pub mod Lines
+pub mod Good
+pub mod Found
+pub mod FirstFault
+pub mod Only
+pub mod PrintLaws
+pub mod Again
+pub mod ValidLaws

@@ -1,0 +1,12 @@
+use Rattle.std.proofs.Common.{◌≡◌, ◌+◌, ◌-◌, ◌≤◌, length, drop}
+use Rattle.pdn_schema.specs.Words.{run, is_word_byte}
+use Rattle.pdn_schema.proofs.words.word_len.Given as goal
+
+abbrev pub invariant-loop-n : goal.invariant-loop-n
+invariant-loop-n l = record {
+  within : l.n ≤ length l.bytes;
+  rest : run is_word_byte (drop l.n l.bytes) + l.n ≡ run is_word_byte l.bytes;
+}
+
+abbrev pub decreases-loop-n : goal.decreases-loop-n
+decreases-loop-n l = length l.bytes - l.n

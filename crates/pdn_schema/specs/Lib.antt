@@ -1,0 +1,10 @@
+pub mod Cut
+pub mod Words
+pub mod Names
+pub mod Models
+pub mod Schemas
+pub mod Forms
+pub mod Causes
+pub mod Reading
+pub mod Printing
+pub mod Rows
