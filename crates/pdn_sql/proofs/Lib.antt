@@ -1,0 +1,12 @@
+pub mod Exact
+pub mod Loop
+pub mod Productions
+pub mod TokenLaws
+pub mod Laws
+pub mod PrintLaws
+pub mod Good
+pub mod TextLaws
+pub mod Reprints
+pub mod Nested
+pub mod Quiet
+pub mod RoundTrip

@@ -1,0 +1,9 @@
+use Rattle.std.proofs.Common.{◌≡◌, ◌∷◌, ◌++◌, take}
+use Rattle.pdn_sql.specs.declared.token.Token.TheVariants.{Word}
+use Rattle.pdn_sql.specs.declared.token.Keyword.TheVariants as words
+use Rattle.pdn_sql.specs.declared.query.SqlCmp.{SqlCmp}
+use Rattle.pdn_sql.specs.Printing.{each, cmp_tokens}
+use Rattle.pdn_sql.proofs.printed.more_cmps.Given as goal
+
+abbrev pub invariant-loop-x : goal.invariant-loop-x
+invariant-loop-x l = l.out.items ≡ l.fn.out.items ++ each (λ (x : SqlCmp). Word words.Or ∷ cmp_tokens x) (take l.x-index l.rest)
