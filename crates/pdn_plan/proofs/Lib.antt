@@ -1,0 +1,14 @@
+mod Blocks
+mod ColumnLaws
+mod Pushing
+mod SplitLaws
+mod KeepLaws
+mod NodeLaws
+mod WidthLaws
+mod Chosen
+mod Stepping
+mod Looking
+mod BlockLaws
+mod SourceLaws
+mod OneBlock
+mod Central

@@ -1,0 +1,9 @@
+use Rattle.std.proofs.Common.{◌≡◌, ◌+◌, ◌++◌, ◌∷◌, [], List, ℕ, Bool, cond, sym, ◌∙◌, ap, ap₂}
+use Rattle.pdn_plan.specs.Columns.{has}
+use Rattle.pdn_plan.proofs.KeepLaws.{kept_more}
+use Rattle.pdn_plan.proofs.split.kept_of.Goals as goal
+
+pub loop-column-preserved : goal.loop-column-preserved
+loop-column-preserved c = c.in_ok-out.ensures
+    ∙ ap₂ (λ (xs : List ℕ) (b : Bool). xs ++ cond b (c.loop-column.column ∷ []) []) c.loop-column.invariant (c.has.ensures ∙ ap (has c.args.needed.now) c.in_ok-at.ensures)
+    ∙ sym (kept_more (λ k. has c.args.needed.now (c.args.from + k)) c.loop-column.column)

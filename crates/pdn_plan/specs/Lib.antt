@@ -1,0 +1,10 @@
+pub mod Meaning
+pub mod Shapes
+pub mod Plans
+pub mod Columns
+pub mod Splitting
+pub mod Names
+pub mod Steps
+pub mod Planning
+pub mod Binding
+pub mod Answer
