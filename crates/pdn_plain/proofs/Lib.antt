@@ -1,0 +1,5 @@
+pub mod CountingLaws
+pub mod DistinctLaws
+pub mod PlaceLaws
+pub mod GroupLaws
+pub mod NodeRows
