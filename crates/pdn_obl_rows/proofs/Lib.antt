@@ -1,0 +1,10 @@
+pub mod CellLaws
+pub mod ConditionLaws
+pub mod RowsLaws
+pub mod OperatorLaws
+pub mod EncodingLaws
+pub mod EncodingSteps
+pub mod LaidLaws
+pub mod JoinLaws
+pub mod AppendLaws
+pub mod ShapeLaws

@@ -1,0 +1,5 @@
+pub mod Lists
+pub mod Encoding
+pub mod Conditions
+pub mod Operators
+pub mod Means
