@@ -1,0 +1,25 @@
+#!/usr/bin/env bash
+# Answers the query of demo/q.sql over the rows of both sites, demo/a.rows and demo/b.rows. It runs the proved program
+# where the gate (.ci/run) has built it from the sources as they stand, else a quick build that is not proved. The key of
+# the tape is made from the system's random source where there is none.
+set -u
+demo=$(cd "$(dirname "$0")" && pwd)
+crates=$(cd "$demo/../crates" && pwd)
+program=$crates/pdn/out/pdn
+
+# Whether the built program is newer than every source that it could be made from.
+is_current() {
+    [ -x "$program" ] && [ -z "$(find "$crates" -path '*/out' -prune -o -type f \( -name '*.rt' -o -name '*.antt' \) -newer "$program" -print -quit)" ]
+}
+
+cd "$demo" || exit 1
+if [ ! -f tape.key ]; then
+    (umask 077 && od -An -tx1 -N32 /dev/urandom | tr -d ' \n' > tape.key && echo >> tape.key) || exit 1
+fi
+if is_current; then
+    echo "the proved program:" >&2
+    exec "$program" run q.sql 1
+fi
+echo "a quick build that is not proved (run .ci/run for the proved program):" >&2
+cd "$crates/pdn" || exit 1
+exec rt try --data q.sql="$demo/q.sql" --data a.rows="$demo/a.rows" --data b.rows="$demo/b.rows" --data tape.key="$demo/tape.key" -- run q.sql 1
