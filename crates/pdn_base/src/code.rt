@@ -1,7 +1,7 @@
 //! Codes: short texts, compared by their numbers.
 ghost use Rattle.std.specs.Prelude.{◌≡◌, ◌≤◌, ◌-◌, ◌++◌, IfOk, Some, length, replicate};
 ghost use Rattle.std.specs.List.{list_all};
-ghost use Rattle.pdn_base.specs.Codes.{is_code, is_code_byte, read_code, code_number, code_text, before_zero};
+ghost use Rattle.pdn_base.specs.Codes.{IsCodeNumber, is_code, is_code_byte, read_code, code_number, code_text, before_zero};
 
 use crate::Memory;
 use std::alloc::Global;
@@ -39,6 +39,14 @@ impl Code {
         } else {
             None
         }
+    }
+
+    /// The code of a number that some code has.
+    pub fn of_number(number: u64) -> Code
+        requires { IsCodeNumber number }
+        ensures { result ≡ number }
+    {
+        Code { number }
     }
 
     /// Its number.
