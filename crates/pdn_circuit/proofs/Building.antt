@@ -68,7 +68,7 @@ and_count-le : (gates : List Gate) → and_count gates ≤ length gates
 and_count-le [] = omega arith
 and_count-le (g ∷ gs) = omega (arith, and_count-le gs, length-append (operands_of g) (ands gs), at_most_one g)
 
-two_there : (gates : List Gate) → take 2 gates ≡ constants → 2 ≤ length gates
+pub two_there : (gates : List Gate) → take 2 gates ≡ constants → 2 ≤ length gates
 two_there gates h = omega (arith, length-take 2 gates, ap length h)
 
 tally_room : (gates : List Gate) (gate : Gate) (x y : Tally) → IsTally x gates → IsTally y (gate ∷ []) → length gates ≤ 16777216 → (x.ands + y.ands < 2 ^ 32)

@@ -139,7 +139,8 @@ impl Builder {
         self.not(differ)
     }
 
-    fn not(&mut self, x: u32) -> Result<u32, BuildErr>
+    /// The lanes in which a word is false.
+    pub fn not(&mut self, x: u32) -> Result<u32, BuildErr>
         requires there { x < length self.old.gates }
         ensures made { Builds self.old self.new (not_gates x) result }
         ensures there { GivesGate self.new result }
