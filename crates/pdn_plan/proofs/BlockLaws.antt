@@ -1,41 +1,20 @@
 -- The tree of a block means what the block says.
-use Rattle.std.proofs.Common.{◌≡◌, ℕ, suc, zero, ◌+◌, ◌<◌, Bool, true, false, not, ◌&&◌, ◌||◌, nat_lt, cond, List, [], ◌∷◌, ◌++◌, map, filter, find, length, sym, refl, ap, ap₂, ◌∙◌, subst, Option, Some, None, arith, length-append, zero-add, is_none, append_assoc, append-nil}
-use Rattle.std.specs.List.{AllByRecursion, list_any, flat_map, range_with_len}
+use Rattle.std.proofs.Common.{◌≡◌, ℕ, suc, Bool, true, false, cond, List, [], ◌∷◌, map, find, length, sym, refl, ap, ◌∙◌, subst, Option, Some, None, is_none}
 use Rattle.std.specs.Str.{bytes_eq}
-use Rattle.std.proofs.lemmas.List.{map-append, length-map}
-use Rattle.pdn_base.specs.declared.value.Value.{Value}
-use Rattle.pdn_base.specs.declared.cond.Cmp.{Cmp}
-use Rattle.pdn_base.specs.Conditions.{meets}
-use Rattle.pdn_base.specs.Bags.{pairs}
-use Rattle.pdn_base.specs.Operators.{filter_rows, project_rows, joined}
+use Rattle.std.proofs.lemmas.List.{length-map}
 use Rattle.pdn_schema.specs.declared.schema.Column.{Column}
 use Rattle.pdn_schema.specs.Models.{TableModel, SchemaModel}
-use Rattle.pdn_schema.specs.Names.{is_among}
 use Rattle.pdn_sql.specs.declared.query.Source.{Source}
-use Rattle.pdn_sql.specs.declared.query.SqlClause.{SqlClause}
-use Rattle.pdn_plan.specs.declared.node.Node.{Node}
 use Rattle.pdn_plan.specs.declared.node.Node.TheVariants as node
 use Rattle.pdn_plan.specs.Meaning.{Rows, mean}
-use Rattle.pdn_plan.specs.Columns.{Clauses, Names, Has, has, Wide, OperandNames, CmpNames}
-use Rattle.pdn_base.specs.declared.cond.Operand.{Operand}
-use Rattle.pdn_base.specs.declared.cond.Operand.TheVariants as operand
-use Rattle.pdn_plan.specs.Names.{or_else, refuse_if, cond_refusal, placed}
-use Rattle.pdn_plan.specs.Splitting.{Part, split, ons, left_by, clauses_columns, operand_columns, cmp_columns}
+use Rattle.pdn_plan.specs.Columns.{Wide}
+use Rattle.pdn_plan.specs.Names.{refuse_if}
 use Rattle.pdn_plan.specs.Steps.{alias_or}
-use Rattle.pdn_plan.specs.Planning.{table_from, given_column, earlier_or, relation, columns_of, plan_of, source_name, seen_as, seen_by, scope_of, bounds}
-use Rattle.pdn_plan.specs.Binding.{sources_refusal}
-use Rattle.pdn_plan.specs.Answer.{Title, NamedRows, Known, table_rows, known_or, stands_for, Standing, titled, standing_of, standing, all_titles, ons_true, all_true, TablesFit, StartsPlain}
-use Rattle.pdn_plan.specs.Answer as answer
-use Rattle.pdn_plan.proofs.Blocks as plans
-use Rattle.pdn_plan.proofs.ColumnLaws.{meets-append}
-use Rattle.pdn_plan.proofs.Pushing.{map-map, map-agree}
-use Rattle.pdn_plan.proofs.KeepLaws.{AllSound, Sound}
+use Rattle.pdn_plan.specs.Planning.{table_from, given_column, earlier_or, relation, columns_of, plan_of, source_name, seen_as, seen_by}
+use Rattle.pdn_plan.specs.Answer.{NamedRows, Known, table_rows, known_or, stands_for, titled, standing, TablesFit}
+use Rattle.pdn_plan.proofs.Pushing.{map-map}
 use Rattle.pdn_plan.proofs.NodeLaws.{mean-Scan}
-use Rattle.pdn_plan.proofs.Chosen.{NoFirstOn, width_of}
-use Rattle.pdn_plan.proofs.Looking.{or_none, title_of, placed-true, cond-within}
-use Rattle.pdn_plan.specs.declared.scope.Refusal.{Refusal}
-use Rattle.pdn_plan.specs.declared.scope.Seen.{Seen}
-use Rattle.pdn_plan.specs.declared.scope.Bound.{Bound}
+use Rattle.pdn_plan.proofs.Looking.{title_of}
 use Rattle.pdn_plan.specs.declared.scope.Given.{Given}
 use Rattle.pdn_plan.specs.declared.scope.Relation.{Relation}
 use Rattle.pdn_plan.specs.declared.scope.Earlier.{Earlier}

@@ -1,33 +1,27 @@
 -- The plan of a query that is not refused means the query's answer.
-use Rattle.std.proofs.Common.{◌≡◌, ℕ, suc, zero, ◌+◌, ◌<◌, Bool, true, false, not, ◌&&◌, ◌||◌, nat_lt, List, [], ◌∷◌, ◌++◌, map, filter, length, sym, refl, ap, ap₂, ◌∙◌, subst, Option, Some, None, arith, is_some, append_assoc}
+use Rattle.std.proofs.Common.{◌≡◌, ℕ, ◌+◌, ◌<◌, Bool, false, not, ◌&&◌, List, [], ◌∷◌, ◌++◌, map, filter, length, sym, refl, ap, ap₂, ◌∙◌, subst, Option, None, arith, append_assoc}
 use Rattle.std.proofs.Math.Path.{fun_ext}
-use Rattle.std.specs.List.{AllByRecursion, list_any, range_with_len}
+use Rattle.std.specs.List.{AllByRecursion, range_with_len}
 use Rattle.std.proofs.lemmas.List.{length-map}
-use Rattle.pdn_base.specs.declared.value.Value.{Value}
-use Rattle.pdn_base.specs.declared.cond.Cmp.{Cmp}
-use Rattle.pdn_base.specs.declared.order.Key.{Key}
 use Rattle.pdn_base.specs.Operators.{filter_rows, project_rows, top_rows}
-use Rattle.pdn_base.specs.Conditions.{meets}
 use Rattle.pdn_schema.specs.Models.{SchemaModel}
 use Rattle.pdn_sql.specs.declared.query.Col.{Col}
-use Rattle.pdn_sql.specs.declared.query.Source.{Source}
 use Rattle.pdn_sql.specs.declared.query.Block.{Block}
 use Rattle.pdn_sql.specs.declared.query.Named.{Named}
 use Rattle.pdn_sql.specs.declared.query.Query.{Query}
-use Rattle.pdn_plan.specs.declared.node.Node.{Node}
 use Rattle.pdn_plan.specs.Meaning.{Rows, mean}
 use Rattle.pdn_plan.specs.Columns.{Clauses, Names, Wide, has, Has, place_in, clauses_at}
-use Rattle.pdn_plan.specs.Splitting.{Part, split, ons, left_over, left_by, clauses_columns, clause_passes, is_of}
+use Rattle.pdn_plan.specs.Splitting.{split, ons, left_over, left_by, clauses_columns, clause_passes, is_of}
 use Rattle.pdn_plan.specs.Names.{or_else, first_of, refuse_if, cond_refusal, col_refusal, placed, place}
-use Rattle.pdn_plan.specs.Steps.{Step, step_of, items_columns, output_name, order_keys, counts}
-use Rattle.pdn_plan.specs.Steps.Step.{Grouped, Counted, Numbered, Unchanged}
-use Rattle.pdn_plan.specs.Planning.{scope_of, bounds, named, kept, chosen_node, step_node, step_columns, step_width, block_items, block_node, block_gives, block_relation, cut_to, filtered, sources_node, what_kind, bound_with, main_relation, root, topped, relation}
-use Rattle.pdn_plan.specs.Binding.{sources_refusal, items_refusal, loose_refusal, is_grouped, is_counted, joins_below, is_wide, after_sources, block_refusal, with_refusal, main_refusal, blocks_refusal, refusal, repeat_refusal, order_refusal, is_some_of}
-use Rattle.pdn_plan.specs.Shapes.{nodes}
+use Rattle.pdn_plan.specs.Steps.{step_of, items_columns, output_name, order_keys, counts}
+use Rattle.pdn_plan.specs.declared.steps.Step.{Step}
+use Rattle.pdn_plan.specs.declared.steps.Step.TheVariants.{Grouped, Counted, Numbered, Unchanged}
+use Rattle.pdn_plan.specs.Planning.{scope_of, bounds, named, kept, chosen_node, block_node, block_relation, filtered, sources_node, what_kind, bound_with, main_relation, root}
+use Rattle.pdn_plan.specs.Binding.{sources_refusal, items_refusal, loose_refusal, is_grouped, is_counted, joins_below, is_wide, after_sources, block_refusal, with_refusal, main_refusal, blocks_refusal, refusal}
 use Rattle.pdn_plan.specs.Answer.{Title, Known, NamedRows, Standing, standing, all_titles, title_place, ons_true, all_true, chosen_rows, numbered_columns, stepped, once_if, block_rows, block_means, with_means, answer, TablesFit, StartsPlain, IsWritten}
 use Rattle.pdn_plan.specs.Answer as answers
 use Rattle.pdn_plan.proofs.Blocks as plans
-use Rattle.pdn_plan.proofs.ColumnLaws.{meets-append, names-weaker}
+use Rattle.pdn_plan.proofs.ColumnLaws.{meets-append}
 use Rattle.pdn_plan.proofs.Pushing.{filter-agree, map-map}
 use Rattle.pdn_plan.proofs.KeepLaws.{needed_below, has_needed, AllSound}
 use Rattle.pdn_plan.proofs.NodeLaws.{mean-Top}
@@ -41,14 +35,15 @@ use Rattle.pdn_plan.specs.declared.scope.Bound.{Bound}
 use Rattle.pdn_plan.specs.declared.scope.Refusal.{Refusal}
 use Rattle.pdn_plan.specs.declared.scope.Seen.{Seen}
 use Rattle.pdn_plan.specs.declared.scope.Earlier.{Earlier}
-use Rattle.pdn_plan.specs.declared.scope.Relation.{Relation}
 
 -- what a block passes after its sources
 pub record Passed (scope : List Seen) (bs : List Bound) (b : Block) : Type 0 where
   pub asks : cond_refusal scope b.filter ≡ None
   pub keys : first_of (col_refusal scope) b.group ≡ None
   pub shows : items_refusal scope b.items ≡ None
+  pub alone : loose_refusal (is_grouped b) scope b ≡ None
   pub joins : refuse_if (is_counted b && joins_below bs) 5 [] ≡ None
+  pub few : refuse_if (is_wide scope bs b) 9 [] ≡ None
 
 pub passed : (scope : List Seen) (bs : List Bound) (b : Block) → after_sources scope bs b ≡ None → Passed scope bs b
 unfolding after_sources
@@ -63,7 +58,8 @@ passed scope bs b e =
     let p3 = or_none (items_refusal scope b.items) loose p2.1 in
     let p4 = or_none (loose_refusal (is_grouped b) scope b) joins p3.1 in
     let p5 = or_none (refuse_if (is_counted b && joins_below bs) 5 []) wide p4.1 in
-    record { asks = p1.0; keys = p2.0; shows = p3.0; joins = p5.0 }
+    let p6 = or_none (refuse_if (is_wide scope bs b) 9 []) None p5.1 in
+    record { asks = p1.0; keys = p2.0; shows = p3.0; alone = p4.0; joins = p5.0; few = p6.0 }
 
 -- what is named of a block's columns
 pub record NamedIn (scope : List Seen) (bs : List Bound) (b : Block) : Type 0 where
@@ -72,7 +68,7 @@ pub record NamedIn (scope : List Seen) (bs : List Bound) (b : Block) : Type 0 wh
   pub group : AllByRecursion (Has (named scope bs b)) (map (place scope) b.group)
   pub items : AllByRecursion (Has (named scope bs b)) (items_columns (place scope) b.items)
 
-named-in : (scope : List Seen) (bs : List Bound) (b : Block) → NamedIn scope bs b
+pub named-in : (scope : List Seen) (bs : List Bound) (b : Block) → NamedIn scope bs b
 named-in scope bs b =
     let all : List ℕ = named scope bs b in
     let one = all-parts (Has all) (clauses_columns (ons bs)) (clauses_columns (left_over 0 (placed scope b.filter) bs) ++ (map (place scope) b.group ++ items_columns (place scope) b.items)) (all-has all) in
@@ -81,10 +77,10 @@ named-in scope bs b =
     record { on = one.0; rest = two.0; group = three.0; items = three.1 }
 
 -- a column that is named and there is kept
-in-kept : (scope : List Seen) (bs : List Bound) (b : Block) (cs : List ℕ) → AllByRecursion (Has (named scope bs b)) cs → AllByRecursion (λ c. c < length scope) cs → AllByRecursion (Has (kept scope bs b)) cs
+pub in-kept : (scope : List Seen) (bs : List Bound) (b : Block) (cs : List ℕ) → AllByRecursion (Has (named scope bs b)) cs → AllByRecursion (λ c. c < length scope) cs → AllByRecursion (Has (kept scope bs b)) cs
 in-kept scope bs b cs h k = all-weaker _ _ (λ c f. has_needed (has (named scope bs b)) c 0 (length scope) f.0 (omega arith) (omega (arith, f.1))) cs (all-both _ _ cs h k)
 
-left_names : (P : ℕ → Type 0) (bs : List Bound) (from : ℕ) (asked : Clauses) → Names P asked → Names P (left_over from asked bs)
+pub left_names : (P : ℕ → Type 0) (bs : List Bound) (from : ℕ) (asked : Clauses) → Names P asked → Names P (left_over from asked bs)
 left_names P [] from asked h = h
 left_names P (b ∷ bs) from asked h = left_names P bs (from + b.width) (left_by from b.width asked) (names-filter P (λ clause. not (clause_passes (is_of from b.width) clause)) asked h)
 

@@ -1,9 +1,8 @@
 -- The tree of a block's sources gives the rows that the block chose, cut to the columns that are kept.
-use Rattle.std.proofs.Common.{◌≡◌, ℕ, ◌+◌, ◌<◌, Bool, true, false, not, cond, List, [], ◌∷◌, ◌++◌, map, filter, length, sym, refl, ap, ap₂, ◌∙◌, subst, arith, map-id, append-nil, zero-add}
+use Rattle.std.proofs.Common.{◌≡◌, ℕ, ◌+◌, ◌<◌, Bool, true, false, cond, List, [], ◌∷◌, ◌++◌, map, sym, refl, ap, ap₂, ◌∙◌, subst, arith, map-id, append-nil, zero-add}
 use Rattle.std.specs.Str.{bytes_eq}
 use Rattle.std.proofs.lemmas.Slice.Eq.{bytes_eq-Decides}
 use Rattle.std.specs.List.{AllByRecursion, range_with_len}
-use Rattle.pdn_base.specs.declared.value.Value.{Value}
 use Rattle.pdn_base.specs.declared.cond.Cmp.{Cmp}
 use Rattle.pdn_base.specs.Values.{cut}
 use Rattle.pdn_base.specs.Conditions.{meets}
@@ -12,16 +11,16 @@ use Rattle.pdn_base.proofs.Perms.{Perm}
 use Rattle.pdn_plan.specs.declared.node.Node.{Node}
 use Rattle.pdn_plan.specs.declared.node.Node.TheVariants as node
 use Rattle.pdn_plan.specs.Meaning.{Rows, mean}
-use Rattle.pdn_plan.specs.Columns.{Clauses, clauses_at, place_in, shifted, Names, Has, Below, Wide}
-use Rattle.pdn_plan.specs.Splitting.{Part, clause_passes, is_of, left_by, split, left_over, ons, kept_of}
+use Rattle.pdn_plan.specs.Columns.{Clauses, clauses_at, place_in, shifted, Names, Has, Wide}
+use Rattle.pdn_plan.specs.Splitting.{Part, left_by, split, left_over, ons}
 use Rattle.pdn_plan.specs.Planning.{filtered, cut_to, part_node, joins_node, sources_node}
 use Rattle.pdn_plan.proofs.Blocks.{product, clauses_so_far, kept_so_far, planned, joins}
 use Rattle.pdn_plan.proofs.ColumnLaws.{names-weaker, meets-at, cell-cut}
-use Rattle.pdn_plan.proofs.Pushing.{filter-all, filter-map, filter-agree, filter_both, meets-perm, pushed, AllFit, Fits}
+use Rattle.pdn_plan.proofs.Pushing.{filter-all, filter-map, filter-agree, filter_both, meets-perm, pushed, AllFit}
 use Rattle.pdn_plan.proofs.SplitLaws.{split_asks}
-use Rattle.pdn_plan.proofs.KeepLaws.{needed_below, keep_more, has_needed, AllSound, Sound, split_fits}
+use Rattle.pdn_plan.proofs.KeepLaws.{needed_below, keep_more, has_needed, AllSound, split_fits}
 use Rattle.pdn_plan.proofs.NodeLaws.{mean-Filter, mean-Project, mean-Join}
-use Rattle.pdn_plan.proofs.WidthLaws.{wide-filter, wide-project, project-all}
+use Rattle.pdn_plan.proofs.WidthLaws.{wide-filter, project-all}
 use Rattle.pdn_plan.specs.declared.scope.Bound.{Bound}
 
 -- a Filter and a Project that are left out change nothing
@@ -60,7 +59,7 @@ start = [] ∷ []
 start_joined : (rows : Rows) → join_rows [] start rows ≡ rows
 start_joined rows = filter-all _ (λ row. refl) (map (joined []) rows ++ []) ∙ append-nil (map (joined []) rows) ∙ map-id rows
 
-shifted-zero : (ks : List ℕ) → shifted 0 ks ≡ ks
+pub shifted-zero : (ks : List ℕ) → shifted 0 ks ≡ ks
 shifted-zero [] = refl
 shifted-zero (k ∷ ks) = ap₂ (λ c cs. c ∷ cs) (zero-add k) (shifted-zero ks)
 
@@ -82,7 +81,7 @@ abbrev pub width_of : ℕ → List Bound → ℕ
 width_of from [] = from
 width_of from (b ∷ bs) = width_of (from + b.width) bs
 
-kept_is : (needed : ℕ → Bool) (bs : List Bound) (from : ℕ) (asked : Clauses) → kept_so_far from (needed_below needed from) (split needed from asked bs) ≡ needed_below needed (width_of from bs)
+pub kept_is : (needed : ℕ → Bool) (bs : List Bound) (from : ℕ) (asked : Clauses) → kept_so_far from (needed_below needed from) (split needed from asked bs) ≡ needed_below needed (width_of from bs)
 kept_is needed [] from asked = refl
 kept_is needed (b ∷ bs) from asked = ap (λ kept. kept_so_far (from + b.width) kept (split needed (from + b.width) (left_by from b.width asked) bs)) (keep_more needed from b.width) ∙ kept_is needed bs (from + b.width) (left_by from b.width asked)
 

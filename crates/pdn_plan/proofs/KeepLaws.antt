@@ -48,7 +48,7 @@ has_needed needed c a (suc n) h low high = ⊎_elim
     (λ apart. has_more needed a c (filter needed (range_with_len (a + 1) n)) (needed a) refl (has_needed needed c (a + 1) n h (omega (arith, apart)) (omega arith)))
     (cases_eq a c)
 
-below_range : (p : ℕ → Bool) (a n : ℕ) → AllByRecursion (λ c. c < a + n) (filter p (range_with_len a n))
+pub below_range : (p : ℕ → Bool) (a n : ℕ) → AllByRecursion (λ c. c < a + n) (filter p (range_with_len a n))
 below_range p a zero = tt
 below_range p a (suc n) = one (p a) (subst (λ (k : ℕ). AllByRecursion (λ c. c < k) (filter p (range_with_len (a + 1) n))) (omega arith) (below_range p (a + 1) n))
   where

@@ -1,13 +1,12 @@
 -- What is known of a name that binding lets pass, and that the answer looks it up at the same place.
-use Rattle.std.proofs.Common.{◌≡◌, ℕ, suc, zero, ◌+◌, ◌<◌, Bool, true, false, ◌&&◌, ◌||◌, cond, List, [], ◌∷◌, ◌++◌, map, filter, count_by, length, sym, refl, ap, ap₂, ◌∙◌, subst, Option, Some, None, arith, length-append}
-use Rattle.std.specs.List.{AllByRecursion, list_all, list_any, flat_map}
+use Rattle.std.proofs.Common.{◌≡◌, ℕ, suc, zero, ◌+◌, ◌<◌, Bool, true, false, ◌&&◌, ◌||◌, cond, List, [], ◌∷◌, ◌++◌, map, count_by, length, sym, refl, ap, ap₂, ◌∙◌, Option, Some, None, arith}
+use Rattle.std.specs.List.{AllByRecursion, list_any}
 use Rattle.std.proofs.lemmas.List.Sums.{sum_by-cons}
 use Rattle.pdn_base.specs.declared.value.Value.{Value}
 use Rattle.pdn_base.specs.Values.{cell}
 use Rattle.pdn_base.specs.Conditions.{meets, plus, compares, cmp_true, operand_value}
 use Rattle.pdn_sql.specs.declared.query.Col.{Col}
 use Rattle.pdn_sql.specs.declared.query.OrderCol.{OrderCol}
-use Rattle.pdn_sql.specs.declared.query.SqlTerm.{SqlTerm}
 use Rattle.pdn_sql.specs.declared.query.SqlOperand.{SqlOperand}
 use Rattle.pdn_sql.specs.declared.query.SqlOperand.TheVariants as written
 use Rattle.pdn_sql.specs.declared.query.SqlCmp.{SqlCmp}
@@ -15,11 +14,11 @@ use Rattle.pdn_sql.specs.declared.query.SqlClause.{SqlClause}
 use Rattle.pdn_sql.specs.declared.query.What.{What}
 use Rattle.pdn_sql.specs.declared.query.What.TheVariants as what
 use Rattle.pdn_sql.specs.declared.query.Item.{Item}
-use Rattle.pdn_plan.specs.Columns.{Clauses, Names, Has, has, OperandNames, CmpNames}
-use Rattle.pdn_plan.specs.Names.{or_else, first_of, refuse_if, by_count, col_fits, col_text, col_refusal, place, operand_refusal, cmp_refusal, clause_refusal, cond_refusal, clashes, placed_operand, placed_cmp, placed_clause, placed}
+use Rattle.pdn_plan.specs.Columns.{Names, OperandNames, CmpNames}
+use Rattle.pdn_plan.specs.Names.{or_else, first_of, refuse_if, by_count, col_fits, col_text, col_refusal, place, operand_refusal, cmp_refusal, clause_refusal, cond_refusal, clashes, placed_operand, placed_cmp, placed}
 use Rattle.pdn_plan.specs.Steps.{what_columns, items_columns}
 use Rattle.pdn_plan.specs.Binding.{what_refusal, items_refusal}
-use Rattle.pdn_plan.specs.Answer.{Title, title_place, sql_value, right_value, sql_true, all_true}
+use Rattle.pdn_plan.specs.Answer.{Title, title_place, right_value, sql_true, all_true}
 use Rattle.pdn_plan.specs.declared.scope.Refusal.{Refusal}
 use Rattle.pdn_plan.specs.declared.scope.Seen.{Seen}
 
@@ -30,7 +29,7 @@ or_none (Some r) b e = absurd cc
 
 -- ---- a name that passes has a place
 
-once : (n : ℕ) (name : List ℕ) → by_count n name ≡ None → n ≡ 1
+pub once : (n : ℕ) (name : List ℕ) → by_count n name ≡ None → n ≡ 1
 once zero name e = absurd cc
 once (suc zero) name e = refl
 once (suc (suc n)) name e = absurd cc

@@ -1,6 +1,5 @@
 -- What each node means, by its children.
-use Rattle.std.proofs.Common.{◌≡◌, ℕ, List, [], ◌∷◌, Option, ap, ◌∙◌, sym, refl, Bool, true, false}
-use Rattle.pdn_base.specs.declared.cond.Cmp.{Cmp}
+use Rattle.std.proofs.Common.{◌≡◌, ℕ, List, Option, ap, ◌∙◌, sym}
 use Rattle.pdn_base.specs.declared.order.Key.{Key}
 use Rattle.pdn_base.specs.Operators.{filter_rows, project_rows, join_rows, group_rows, count_rows, distinct_rows, number_rows, top_rows}
 use Rattle.pdn_plan.specs.declared.node.Node.{Node, Node-F, fold-roll-Node}

@@ -1,49 +1,37 @@
 -- A block that is not refused: its tree means what it says.
-use Rattle.std.proofs.Common.{◌≡◌, ℕ, suc, zero, ◌+◌, ◌<◌, ◌==◌, Bool, true, false, not, ◌&&◌, ◌||◌, nat_lt, cond, List, [], ◌∷◌, ◌++◌, map, filter, length, sym, refl, ap, ap₂, ◌∙◌, subst, Option, Some, None, arith, length-append, append-nil, eq-eqb, zero-add}
-use Rattle.std.proofs.Math.Path.{fun_ext}
-use Rattle.std.specs.List.{AllByRecursion, flat_map, list_any, list_all, range_with_len}
-use Rattle.std.proofs.lemmas.List.{map-append, length-map}
+use Rattle.std.proofs.Common.{◌≡◌, ℕ, ◌+◌, ◌<◌, ◌==◌, Bool, true, false, not, ◌&&◌, ◌||◌, cond, List, [], ◌∷◌, ◌++◌, map, filter, length, sym, refl, ap, ap₂, ◌∙◌, subst, Option, None, arith, length-append, eq-eqb}
+use Rattle.std.specs.List.{AllByRecursion, list_any}
+use Rattle.std.proofs.lemmas.List.{length-map}
 use Rattle.std.proofs.lemmas.Bool.{true≢false, lt-ltb, le-leb}
-use Rattle.pdn_base.specs.declared.value.Value.{Value}
 use Rattle.pdn_base.specs.declared.cond.Cmp.{Cmp}
 use Rattle.pdn_base.specs.declared.cond.Operand.{Operand}
 use Rattle.pdn_base.specs.declared.cond.Operand.TheVariants as operand
 use Rattle.pdn_base.specs.declared.order.Key.{Key}
-use Rattle.pdn_base.specs.Conditions.{meets}
-use Rattle.pdn_base.specs.Operators.{filter_rows, project_rows, group_rows, count_rows, number_rows}
+use Rattle.pdn_base.specs.Operators.{project_rows, group_rows, count_rows, number_rows}
 use Rattle.pdn_schema.specs.Models.{SchemaModel}
 use Rattle.pdn_sql.specs.declared.query.Col.{Col}
 use Rattle.pdn_sql.specs.declared.query.What.{What}
 use Rattle.pdn_sql.specs.declared.query.What.TheVariants as what
 use Rattle.pdn_sql.specs.declared.query.Item.{Item}
 use Rattle.pdn_sql.specs.declared.query.Source.{Source}
-use Rattle.pdn_sql.specs.declared.query.SqlClause.{SqlClause}
 use Rattle.pdn_sql.specs.declared.query.Block.{Block}
 use Rattle.pdn_plan.specs.declared.node.Node.{Node}
 use Rattle.pdn_plan.specs.Meaning.{Rows, mean}
-use Rattle.pdn_plan.specs.Columns.{Clauses, Names, CmpNames, OperandNames, Wide, has, Has, place_in, clauses_at}
-use Rattle.pdn_plan.specs.Splitting.{Part, split, ons, left_by, left_over, clauses_columns, clause_passes, cmp_passes, operand_passes, is_of}
-use Rattle.pdn_plan.specs.Names.{or_else, first_of, refuse_if, cond_refusal, col_refusal, placed, place}
-use Rattle.pdn_plan.specs.Steps.{Step, step_of, key_at, items_at, items_columns, output_name, is_number, is_count, counts, firsts, group_or, count_or, window_step, number_or}
-use Rattle.pdn_plan.specs.Steps.Step.{Grouped, Counted, Numbered, Unchanged}
-use Rattle.pdn_plan.specs.Planning.{seen_by, scope_of, bounds, named, kept, chosen_node, step_node, step_columns, step_width, block_items, block_node, block_gives, block_relation, cut_to, distinct_if, what_kind}
-use Rattle.pdn_plan.specs.Binding.{sources_refusal, items_refusal, loose_refusal, is_grouped, is_counted, joins_below, is_wide, after_sources, block_refusal, is_some_of}
-use Rattle.pdn_plan.specs.Answer.{Title, Known, NamedRows, Standing, standing, all_titles, title_place, ons_true, all_true, chosen_rows, numbered_columns, stepped, once_if, block_rows, block_means, TablesFit, StartsPlain}
-use Rattle.pdn_plan.proofs.ColumnLaws.{meets-append, names-weaker}
-use Rattle.pdn_plan.proofs.Pushing.{filter-agree, map-map}
-use Rattle.pdn_plan.proofs.KeepLaws.{needed_below, has_needed, AllSound}
+use Rattle.pdn_plan.specs.Columns.{Clauses, Names, CmpNames, OperandNames, Wide, has, Has, place_in}
+use Rattle.pdn_plan.specs.Splitting.{ons, left_by, left_over, clauses_columns, clause_passes, operand_passes, is_of}
+use Rattle.pdn_plan.specs.Names.{refuse_if, placed, place}
+use Rattle.pdn_plan.specs.Steps.{key_at, items_at, is_number, counts, firsts, group_or, count_or, window_step, number_or}
+use Rattle.pdn_plan.specs.declared.steps.Step.{Step}
+use Rattle.pdn_plan.specs.declared.steps.Step.TheVariants.{Grouped, Counted, Numbered, Unchanged}
+use Rattle.pdn_plan.specs.Planning.{seen_by, scope_of, bounds, kept, step_node, step_columns, step_width, cut_to}
+use Rattle.pdn_plan.specs.Binding.{joins_below}
+use Rattle.pdn_plan.specs.Answer.{numbered_columns, stepped, once_if, StartsPlain}
+use Rattle.pdn_plan.proofs.ColumnLaws.{names-weaker}
 use Rattle.pdn_plan.proofs.NodeLaws.{mean-Group, mean-Count, mean-Number}
 use Rattle.pdn_plan.proofs.WidthLaws.{wide-project, wide-group, wide-number, wide-distinct}
-use Rattle.pdn_plan.proofs.Chosen.{start, width_of, Wanted, chosen-means, cut-means, NoFirstOn}
-use Rattle.pdn_plan.proofs.Stepping.{AllColumns, group-cut, count-cut, items-project, distinct-means, shows-columns}
-use Rattle.pdn_plan.proofs.Looking.{or_none, title_of, title-place, placed-true, cond-within, cols-within, items-within}
-use Rattle.pdn_plan.proofs.BlockLaws.{AllMatch, Matches}
-use Rattle.pdn_plan.proofs.SourceLaws.{AllStand, all-stand, titles-are, ons-are, product-is, width-is, names-from, names-both, all-sound, first-plain}
-use Rattle.pdn_plan.specs.declared.scope.Bound.{Bound}
-use Rattle.pdn_plan.specs.declared.scope.Refusal.{Refusal}
-use Rattle.pdn_plan.specs.declared.scope.Seen.{Seen}
+use Rattle.pdn_plan.proofs.Chosen.{cut-means}
+use Rattle.pdn_plan.proofs.Stepping.{AllColumns, group-cut, count-cut, items-project}
 use Rattle.pdn_plan.specs.declared.scope.Earlier.{Earlier}
-use Rattle.pdn_plan.specs.declared.scope.Relation.{Relation}
 
 -- ---- lists of places
 
@@ -71,7 +59,7 @@ pub all-weaker : (P Q : ℕ → Type 0) → ((c : ℕ) → P c → Q c) → (xs 
 all-weaker P Q w [] h = tt
 all-weaker P Q w (x ∷ xs) h = (w x h.0, all-weaker P Q w xs h.1)
 
-all-firsts : (P : ℕ → Type 0) (before xs : List ℕ) → AllByRecursion P xs → AllByRecursion P (firsts (λ c. c) before xs)
+pub all-firsts : (P : ℕ → Type 0) (before xs : List ℕ) → AllByRecursion P xs → AllByRecursion P (firsts (λ c. c) before xs)
 all-firsts P before [] h = tt
 all-firsts P before (x ∷ xs) h = one (has before x) (all-firsts P before xs h.1) (all-firsts P (before ++ x ∷ []) xs h.1)
   where
@@ -169,7 +157,7 @@ pub or_right : (a b : Bool) → b ≡ true → (a || b) ≡ true
 or_right true b e = refl
 or_right false b e = e
 
-or_none_of : (a b : Bool) → (a || b) ≡ false → a ≡ false
+pub or_none_of : (a b : Bool) → (a || b) ≡ false → a ≡ false
 or_none_of true b e = absurd (true≢false e)
 or_none_of false b e = refl
 

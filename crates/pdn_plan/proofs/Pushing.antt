@@ -148,7 +148,7 @@ pub wide-pairs : (w v : ℕ) (P S : Rows) → Wide w P → Wide v S → Wide (w 
 wide-pairs w v [] S h k = tt
 wide-pairs w v (a ∷ P) S h k = wide-append (w + v) (map (joined a) S) (pairs joined P S) (wide-row w v a h.0 S k) (wide-pairs w v P S h.1 k)
 
-below-both : (w v : ℕ) (ks ms : List ℕ) → Below w ks → Below v ms → Below (w + v) (ks ++ shifted w ms)
+pub below-both : (w v : ℕ) (ks ms : List ℕ) → Below w ks → Below v ms → Below (w + v) (ks ++ shifted w ms)
 below-both w v [] [] h k = tt
 below-both w v [] (m ∷ ms) h k = (omega (arith, k.0), below-both w v [] ms h k.1)
 below-both w v (c ∷ ks) ms h k = (omega (arith, h.0), below-both w v ks ms h.1 k)

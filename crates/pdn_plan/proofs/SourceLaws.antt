@@ -1,6 +1,6 @@
 -- The sources of a block, as bound and as written.
-use Rattle.std.proofs.Common.{◌≡◌, ℕ, suc, zero, ◌+◌, ◌<◌, Bool, true, false, not, ◌&&◌, ◌||◌, cond, List, [], ◌∷◌, ◌++◌, map, filter, length, sym, refl, ap, ap₂, ◌∙◌, subst, Option, Some, None, arith, length-append, append_assoc, is_none}
-use Rattle.std.specs.List.{AllByRecursion, flat_map, list_any}
+use Rattle.std.proofs.Common.{◌≡◌, ℕ, ◌+◌, ◌<◌, Bool, true, ◌&&◌, List, [], ◌∷◌, ◌++◌, map, length, sym, refl, ap, ap₂, ◌∙◌, subst, Option, None, arith, length-append, append_assoc, is_none}
+use Rattle.std.specs.List.{AllByRecursion, flat_map}
 use Rattle.std.proofs.lemmas.List.{map-append}
 use Rattle.pdn_base.specs.declared.value.Value.{Value}
 use Rattle.pdn_base.specs.declared.cond.Cmp.{Cmp}
@@ -12,10 +12,9 @@ use Rattle.pdn_base.specs.Operators.{joined}
 use Rattle.pdn_schema.specs.Models.{SchemaModel}
 use Rattle.pdn_schema.specs.Names.{is_among}
 use Rattle.pdn_sql.specs.declared.query.Source.{Source}
-use Rattle.pdn_plan.specs.declared.node.Node.{Node}
 use Rattle.pdn_plan.specs.Meaning.{Rows, mean}
-use Rattle.pdn_plan.specs.Columns.{Clauses, Names, OperandNames, CmpNames, Wide, has}
-use Rattle.pdn_plan.specs.Splitting.{Part, split, ons, left_by, clauses_columns, operand_columns, cmp_columns}
+use Rattle.pdn_plan.specs.Columns.{Clauses, Names, OperandNames, CmpNames}
+use Rattle.pdn_plan.specs.Splitting.{split, ons, left_by, clauses_columns, operand_columns, cmp_columns}
 use Rattle.pdn_plan.specs.Names.{or_else, refuse_if, cond_refusal, placed}
 use Rattle.pdn_plan.specs.Planning.{relation, plan_of, source_name, seen_by, scope_of, bounds}
 use Rattle.pdn_plan.specs.Binding.{sources_refusal}
@@ -23,11 +22,10 @@ use Rattle.pdn_plan.specs.Answer.{Title, Known, Standing, standing, all_titles, 
 use Rattle.pdn_plan.specs.Answer as answer
 use Rattle.pdn_plan.proofs.Blocks as plans
 use Rattle.pdn_plan.proofs.ColumnLaws.{meets-append, names-weaker}
-use Rattle.pdn_plan.proofs.KeepLaws.{AllSound, Sound}
+use Rattle.pdn_plan.proofs.KeepLaws.{AllSound}
 use Rattle.pdn_plan.proofs.Chosen.{NoFirstOn, width_of}
-use Rattle.pdn_plan.proofs.Looking.{or_none, title_of, placed-true, cond-within, all-append}
+use Rattle.pdn_plan.proofs.Looking.{or_none, title_of, placed-true, cond-within}
 use Rattle.pdn_plan.proofs.BlockLaws.{AllMatch, Stands, stands}
-use Rattle.pdn_plan.specs.declared.scope.Bound.{Bound}
 use Rattle.pdn_plan.specs.declared.scope.Refusal.{Refusal}
 use Rattle.pdn_plan.specs.declared.scope.Seen.{Seen}
 use Rattle.pdn_plan.specs.declared.scope.Earlier.{Earlier}
@@ -122,7 +120,7 @@ names-both P Q cs h k = clauses cs h k
     clauses [] h k = tt
     clauses (c ∷ cs) h k = (cmps c h.0 k.0, clauses cs h.1 k.1)
 
-names-parts : (P : ℕ → Type 0) (cs ds : Clauses) → Names P (cs ++ ds) → Names P cs × Names P ds
+pub names-parts : (P : ℕ → Type 0) (cs ds : Clauses) → Names P (cs ++ ds) → Names P cs × Names P ds
 names-parts P [] ds h = (tt, h)
 names-parts P (c ∷ cs) ds h = let next = names-parts P cs ds h.1 in ((h.0, next.0), next.1)
 

@@ -1,14 +1,12 @@
 -- Group, count, number and the items read the cut rows as they read the whole ones.
-use Rattle.std.proofs.Common.{◌≡◌, ℕ, ◌+◌, Bool, true, false, ◌||◌, cond, List, [], ◌∷◌, ◌++◌, map, filter, length, sym, refl, ap, ap₂, ◌∙◌, subst, Option, arith}
+use Rattle.std.proofs.Common.{◌≡◌, ℕ, Bool, true, false, ◌||◌, List, [], ◌∷◌, ◌++◌, map, filter, length, refl, ap, ap₂, ◌∙◌, Option}
 use Rattle.std.proofs.lemmas.List.{length-map}
-use Rattle.std.specs.List.{AllByRecursion, range_with_len, list_any}
+use Rattle.std.specs.List.{AllByRecursion}
 use Rattle.pdn_base.specs.declared.value.Value.{Value}
 use Rattle.pdn_base.specs.declared.value.Value.TheVariants as value
-use Rattle.pdn_base.specs.declared.order.Key.{Key}
 use Rattle.pdn_base.specs.Values.{cut, cell}
-use Rattle.pdn_base.specs.Operators.{project_rows, group_rows, count_rows, number_rows, distinct_rows}
+use Rattle.pdn_base.specs.Operators.{project_rows, group_rows, count_rows}
 use Rattle.pdn_sql.specs.declared.query.Col.{Col}
-use Rattle.pdn_sql.specs.declared.query.OrderCol.{OrderCol}
 use Rattle.pdn_sql.specs.declared.query.What.{What}
 use Rattle.pdn_sql.specs.declared.query.What.TheVariants as what
 use Rattle.pdn_sql.specs.declared.query.Item.{Item}
@@ -18,18 +16,16 @@ use Rattle.pdn_base.specs.Values.{same_row}
 use Rattle.pdn_base.specs.Bags.{times, distinct}
 use Rattle.pdn_base.specs.Operators.{counted, allows}
 use Rattle.pdn_plan.specs.declared.node.Node.{Node}
-use Rattle.pdn_plan.specs.declared.node.Node.TheVariants as node
 use Rattle.pdn_plan.specs.Meaning.{Rows, mean}
-use Rattle.pdn_plan.specs.Columns.{place_in, Has, has, Wide}
-use Rattle.pdn_plan.specs.Steps.{Step, key_at, what_at, items_at, items_columns, what_columns, is_count, is_number, counts, count_or, window_step, number_or, step_of, group_or}
-use Rattle.pdn_plan.specs.Steps.Step.{Grouped, Counted, Numbered, Unchanged}
-use Rattle.pdn_plan.specs.Planning.{step_node, step_columns, step_width, distinct_if, cut_to}
+use Rattle.pdn_plan.specs.Columns.{place_in, Has}
+use Rattle.pdn_plan.specs.Steps.{what_at, items_at, items_columns, what_columns, is_count, counts, count_or, window_step, number_or, step_of, group_or}
+use Rattle.pdn_plan.specs.declared.steps.Step.{Step}
+use Rattle.pdn_plan.specs.declared.steps.Step.TheVariants.{Grouped, Unchanged}
+use Rattle.pdn_plan.specs.Planning.{step_node, distinct_if}
 use Rattle.pdn_plan.specs.Answer.{once_if}
 use Rattle.pdn_plan.proofs.ColumnLaws.{cell-cut, cut-cut}
 use Rattle.pdn_plan.proofs.Pushing.{map-map, map-agree}
-use Rattle.pdn_plan.proofs.NodeLaws.{mean-Group, mean-Count, mean-Number, mean-Distinct}
-use Rattle.pdn_plan.proofs.WidthLaws.{wide-group, wide-number, wide-project}
-use Rattle.pdn_plan.proofs.Chosen.{cut-means}
+use Rattle.pdn_plan.proofs.NodeLaws.{mean-Group, mean-Distinct}
 
 -- rows cut twice
 pub project-project : (kept columns : List ℕ) (rows : Rows) → AllByRecursion (Has kept) columns → project_rows (map (place_in kept) columns) (project_rows kept rows) ≡ project_rows columns rows

@@ -1,16 +1,15 @@
 -- How wide the rows of each operator are.
-use Rattle.std.proofs.Common.{◌≡◌, ℕ, suc, zero, ◌+◌, Bool, true, false, not, cond, List, [], ◌∷◌, ◌++◌, map, filter, length, sym, refl, ap, ap₂, ◌∙◌, subst, arith, length-append, Option}
+use Rattle.std.proofs.Common.{◌≡◌, ℕ, ◌+◌, Bool, true, false, not, cond, List, [], ◌∷◌, ◌++◌, map, filter, length, sym, refl, ap, ap₂, ◌∙◌, subst, arith, length-append, Option}
 use Rattle.std.proofs.lemmas.List.{length-map}
-use Rattle.std.specs.List.{range_with_len, AllByRecursion}
+use Rattle.std.specs.List.{range_with_len}
 use Rattle.pdn_base.specs.declared.value.Value.{Value}
 use Rattle.pdn_base.specs.declared.value.Value.TheVariants as value
 use Rattle.pdn_base.specs.declared.order.Key.{Key}
-use Rattle.pdn_base.specs.declared.cond.Cmp.{Cmp}
 use Rattle.pdn_base.specs.Values.{cell, cut, same_row}
-use Rattle.pdn_base.specs.Bags.{distinct, times}
-use Rattle.pdn_base.specs.Operators.{filter_rows, project_rows, group_rows, count_rows, distinct_rows, number_rows, number_from, counted, allows, place_of}
+use Rattle.pdn_base.specs.Bags.{times}
+use Rattle.pdn_base.specs.Operators.{project_rows, group_rows, distinct_rows, number_rows, number_from, allows, place_of}
 use Rattle.pdn_plan.specs.Meaning.{Rows}
-use Rattle.pdn_plan.specs.Columns.{Clauses, Wide}
+use Rattle.pdn_plan.specs.Columns.{Wide}
 use Rattle.pdn_plan.proofs.ColumnLaws.{cell-right}
 use Rattle.pdn_plan.proofs.Pushing.{map-map, map-agree}
 use Rattle.pdn_plan.proofs.KeepLaws.{range-shift}

@@ -1,5 +1,5 @@
 -- What a query as written means, without a plan.
-use Rattle.std.specs.Prelude.{◌≡◌, ℕ, suc, ◌+◌, ◌&&◌, Bool, true, false, cond, List, [], ◌∷◌, ◌++◌, map, filter, length, Option, Some, None, find}
+use Rattle.std.specs.Prelude.{◌≡◌, ℕ, suc, ◌&&◌, Bool, true, false, cond, List, [], ◌∷◌, ◌++◌, map, filter, length, Option, Some, None, find}
 use Rattle.std.specs.List.{list_any, list_all, range_with_len, flat_map, AllByRecursion}
 use Rattle.std.specs.Str.{bytes_eq}
 use Rattle.pdn_base.specs.declared.value.Value.{Value}
@@ -23,8 +23,9 @@ use Rattle.pdn_sql.specs.declared.query.Named.{Named}
 use Rattle.pdn_sql.specs.declared.query.Query.{Query}
 use Rattle.pdn_plan.specs.Meaning.{Rows}
 use Rattle.pdn_plan.specs.Columns.{has, place_in, Wide}
-use Rattle.pdn_plan.specs.Steps.{Step, step_of, key_at, items_at, items_columns, output_name, alias_or, order_keys}
-use Rattle.pdn_plan.specs.Steps.Step.{Grouped, Counted, Numbered, Unchanged}
+use Rattle.pdn_plan.specs.Steps.{step_of, key_at, items_at, items_columns, output_name, alias_or, order_keys}
+use Rattle.pdn_plan.specs.declared.steps.Step.{Step}
+use Rattle.pdn_plan.specs.declared.steps.Step.TheVariants.{Grouped, Counted, Numbered, Unchanged}
 
 -- ---- names
 

@@ -1,9 +1,8 @@
 -- Why a query is refused: the rules of binding, in their order.
 use Rattle.std.specs.Prelude.{◌≡◌, ℕ, Bool, true, false, not, ◌&&◌, ◌||◌, nat_lt, List, [], ◌∷◌, ◌++◌, map, length, count_by, Option, Some, None, is_none, is_some, Result, Ok, Err}
-use Rattle.std.specs.List.{list_any, flat_map}
+use Rattle.std.specs.List.{list_any}
 use Rattle.std.specs.Str.{bytes_eq}
 use Rattle.pdn_schema.specs.Models.{SchemaModel}
-use Rattle.pdn_schema.specs.Schemas.{table_names}
 use Rattle.pdn_schema.specs.Names.{is_among}
 use Rattle.pdn_sql.specs.declared.query.Col.{Col}
 use Rattle.pdn_sql.specs.declared.query.What.{What}
@@ -20,7 +19,7 @@ use Rattle.pdn_plan.specs.declared.plan.OutColumn.{OutColumn}
 use Rattle.pdn_plan.specs.Columns.{has}
 use Rattle.pdn_plan.specs.Names.{first, first_of, or_else, refuse_if, by_count, col_refusal, cond_refusal, place}
 use Rattle.pdn_plan.specs.Steps.{step_of, output_name, is_number, counts}
-use Rattle.pdn_plan.specs.Planning.{relation, source_name, seen_by, scope_of, bounds, kept, step_width, block_relation, bound_with, root, columns}
+use Rattle.pdn_plan.specs.Planning.{relation, source_name, seen_by, scope_of, bounds, kept, step_width, block_relation, root, columns}
 use Rattle.pdn_plan.specs.Shapes.{has_join, nodes}
 use Rattle.pdn_plan.specs.Plans.{PlanModel, forbidden}
 use Rattle.pdn_plan.specs.declared.scope.Bound.{Bound}
@@ -79,17 +78,22 @@ is_wide scope bs b =
     || (nat_lt 16 (step_width (kept scope bs b) (step_of (place scope) b))
     || nat_lt 16 (length b.items))
 
-unfoldable pub after_sources : List Seen → List Bound → Block → Option Refusal
-after_sources scope bs b = first (
+-- after the sources, where it is given whether a Join is below: WHERE, GROUP BY, items, what can't stand beside a count, counts
+-- over a Join, columns
+abbrev pub after_given : Bool → List Seen → List Bound → Block → Option Refusal
+after_given joins scope bs b = first (
     cond_refusal scope b.filter
     ∷ first_of (col_refusal scope) b.group
     ∷ items_refusal scope b.items
     ∷ loose_refusal (is_grouped b) scope b
-    ∷ refuse_if (is_counted b && joins_below bs) 5 []
+    ∷ refuse_if (is_counted b && joins) 5 []
     ∷ refuse_if (is_wide scope bs b) 9 []
     ∷ [])
 
--- a block: sources, WHERE, GROUP BY, items, what can't stand beside a count, counts over a Join, columns
+unfoldable pub after_sources : List Seen → List Bound → Block → Option Refusal
+after_sources scope bs b = after_given (joins_below bs) scope bs b
+
+-- a block: its sources, and what comes after them
 abbrev pub block_refusal : SchemaModel → List Earlier → Block → Option Refusal
 block_refusal schema earlier b = or_else
     (sources_refusal schema earlier [] [] b.sources)

@@ -8,3 +8,4 @@ pub mod Steps
 pub mod Planning
 pub mod Binding
 pub mod Answer
+pub mod Keeping

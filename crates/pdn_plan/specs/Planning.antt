@@ -1,16 +1,11 @@
 -- The plan of a query: its sources, its blocks, and the whole.
-use Rattle.std.specs.Prelude.{ℕ, zero, suc, ◌+◌, ◌-◌, ◌==◌, nat_lt, not, ◌&&◌, ◌||◌, Bool, true, false, cond, List, [], ◌∷◌, ◌++◌, map, filter, length, Option, Some, None, find, slice_get}
-use Rattle.std.specs.List.{list_all, list_any, range_with_len, flat_map}
+use Rattle.std.specs.Prelude.{ℕ, suc, ◌+◌, Bool, true, false, cond, List, [], ◌∷◌, ◌++◌, map, filter, length, Option, Some, None, find, slice_get}
+use Rattle.std.specs.List.{range_with_len, flat_map}
 use Rattle.std.specs.Str.{bytes_eq}
 use Rattle.pdn_base.specs.declared.marks.Kind.{Kind}
 use Rattle.pdn_base.specs.declared.marks.Kind.TheVariants as kind
-use Rattle.pdn_base.specs.declared.order.Key.{Key}
 use Rattle.pdn_schema.specs.declared.schema.Column.{Column}
 use Rattle.pdn_schema.specs.Models.{TableModel, SchemaModel}
-use Rattle.pdn_sql.specs.declared.query.Name.{Name}
-use Rattle.pdn_sql.specs.declared.query.Col.{Col}
-use Rattle.pdn_sql.specs.declared.query.OrderCol.{OrderCol}
-use Rattle.pdn_sql.specs.declared.query.OrderName.{OrderName}
 use Rattle.pdn_sql.specs.declared.query.What.{What}
 use Rattle.pdn_sql.specs.declared.query.What.TheVariants as what
 use Rattle.pdn_sql.specs.declared.query.Item.{Item}
@@ -28,8 +23,9 @@ use Rattle.pdn_plan.specs.declared.scope.Relation.{Relation}
 use Rattle.pdn_plan.specs.declared.scope.Earlier.{Earlier}
 use Rattle.pdn_plan.specs.Shapes.{labels, label_at}
 use Rattle.pdn_plan.specs.Splitting.{Part, split, left_over, clauses_columns, ons}
-use Rattle.pdn_plan.specs.Steps.{Step, step_of, key_at, items_at, items_columns, output_name, alias_or, order_keys}
-use Rattle.pdn_plan.specs.Steps.Step.{Grouped, Counted, Numbered, Unchanged}
+use Rattle.pdn_plan.specs.Steps.{step_of, key_at, items_at, items_columns, output_name, alias_or, order_keys}
+use Rattle.pdn_plan.specs.declared.steps.Step.{Step}
+use Rattle.pdn_plan.specs.declared.steps.Step.TheVariants.{Grouped, Counted, Numbered, Unchanged}
 use Rattle.pdn_plan.specs.Names.{place, col_kind, placed}
 use Rattle.pdn_plan.specs.declared.scope.Bound.{Bound}
 use Rattle.pdn_plan.specs.declared.scope.Seen.{Seen}

@@ -1,5 +1,5 @@
 -- A plan as contracts see it, and what every plan keeps.
-use Rattle.std.specs.Prelude.{◌≡◌, ℕ, Bool, true, not, List, [], ◌∷◌, Option, Some, None, find, map}
+use Rattle.std.specs.Prelude.{◌≡◌, true, not, List, Option, find}
 use Rattle.std.specs.List.{list_all}
 use Rattle.pdn_plan.specs.declared.node.Node.{Node}
 use Rattle.pdn_plan.specs.declared.plan.OutColumn.{OutColumn}

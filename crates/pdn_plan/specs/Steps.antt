@@ -1,5 +1,5 @@
 -- What a block does with the rows that it chose, with each name replaced by a place.
-use Rattle.std.specs.Prelude.{codes, ℕ, suc, ◌==◌, Bool, true, false, cond, List, [], ◌∷◌, ◌++◌, map, length, Option, Some, None}
+use Rattle.std.specs.Prelude.{codes, ℕ, suc, Bool, true, false, cond, List, [], ◌∷◌, ◌++◌, map, Option, Some, None}
 use Rattle.std.specs.List.{list_any, flat_map}
 use Rattle.std.specs.Str.{bytes_eq}
 use Rattle.pdn_base.specs.declared.order.Key.{Key}
@@ -12,6 +12,8 @@ use Rattle.pdn_sql.specs.declared.query.What.TheVariants as what
 use Rattle.pdn_sql.specs.declared.query.Item.{Item}
 use Rattle.pdn_sql.specs.declared.query.Block.{Block}
 use Rattle.pdn_plan.specs.Columns.{has}
+use Rattle.pdn_plan.specs.declared.steps.Step.{Step}
+use Rattle.pdn_plan.specs.declared.steps.Step.TheVariants.{Grouped, Counted, Numbered, Unchanged}
 
 -- the name of an item in what the block gives: its alias, else what it shows
 abbrev pub what_name : What → List ℕ
@@ -32,14 +34,6 @@ firsts number before [] = []
 firsts number before (x ∷ xs) = cond (has before (number x)) (firsts number before xs) (x ∷ firsts number (before ++ number x ∷ []) xs)
 
 -- ---- one step between the rows chosen and the items
-
-pub data Step : Type 0 where
-  -- by these keys, where a key has at least so many rows
-  Grouped : List ℕ → Option ℕ → Step
-  Counted : Step
-  -- by this partition, in this order
-  Numbered : List ℕ → List Key → Step
-  Unchanged : Step
 
 abbrev pub is_count : What → Bool
 is_count (what.Column col) = false

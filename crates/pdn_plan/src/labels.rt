@@ -10,7 +10,8 @@ use pdn_base::{Key, Label, Memory};
 use pdn_schema::{Column, Schema};
 use std::alloc::Global;
 
-fn is_public(label: Label) -> bool
+/// Whether a column of this label may be shown.
+pub fn is_public(label: Label) -> bool
     ensures { result ≡ is_public label }
 {
     match label {
@@ -50,7 +51,8 @@ fn reaches_floor(floor: u32, having: Option<u32>) -> bool
     }
 }
 
-fn label_at(labels: &[Label], column: u32) -> Label
+/// The label of a column; of no column, private.
+pub fn label_at(labels: &[Label], column: u32) -> Label
     ensures { result ≡ label_at labels.now column }
 {
     match labels.get(column as usize) {

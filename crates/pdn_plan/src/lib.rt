@@ -1,16 +1,25 @@
 //! Plans: a query bound to a schema, what it means, and which columns it would release.
 #![tactic(auto)]
 
+mod answer;
+mod binding;
+mod block;
 mod labels;
 mod laws;
 mod names;
 mod node;
 mod plan;
+mod refusals;
 mod scope;
+mod sources;
 mod split;
+mod steps;
+#[cfg(test)]
+mod tests;
 mod tree;
 
+pub use binding::bind;
 pub use labels::labels_of;
-pub use laws::plan_means_answer;
+pub use laws::{plan_fits_schema, plan_means_answer, texts_are_written, valid_unions_fit};
 pub use node::Node;
 pub use plan::{OutColumn, Plan, PlanErr};
