@@ -3,7 +3,11 @@
 
 mod groups;
 mod numbers;
+#[cfg(test)]
+mod operator_tests;
 mod products;
+#[cfg(test)]
+mod query_tests;
 mod running;
 mod selections;
 #[cfg(test)]

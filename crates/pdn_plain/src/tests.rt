@@ -12,7 +12,7 @@ use std::alloc::Global;
 use std::test::Fail;
 
 /// Rows of numbers.
-fn ints(alloc: Global, table: &[&[u32]]) -> Result<Rows, Memory>
+pub fn ints(alloc: Global, table: &[&[u32]]) -> Result<Rows, Memory>
     ensures { IfOk result (λ rows. IsShort rows) }
 {
     let mut rows = Vec::new(alloc);
@@ -31,7 +31,7 @@ fn ints(alloc: Global, table: &[&[u32]]) -> Result<Rows, Memory>
 }
 
 /// The one comparison `column op other + plus`.
-fn compared(
+pub fn compared(
     alloc: Global,
     column: u32,
     op: Op,
@@ -52,7 +52,7 @@ fn compared(
     Ok(Cond { all })
 }
 
-fn same(alloc: Global, rows: &Rows, table: &[&[u32]]) -> Result<bool, Memory> {
+pub fn same(alloc: Global, rows: &Rows, table: &[&[u32]]) -> Result<bool, Memory> {
     let wanted = ints(alloc, table)?;
     Ok(rows.as_slice() == wanted.as_slice())
 }
@@ -234,7 +234,7 @@ fn top_lists_rows_up_to_the_limit(rt: HostRuntime) -> Result<(), Fail> {
 const SCHEMA: &str =
     "version 1\nfloor 3\ntable visit rows 8\ncolumn pid int private\ncolumn day int private\ntable dose rows 8\ncolumn pid int private\ncolumn amount int private\nend\n";
 
-fn schema_of(alloc: Global, text: &str) -> Result<Schema, Memory> {
+pub fn schema_of(alloc: Global, text: &str) -> Result<Schema, Memory> {
     if text.len() < 1_000 {
         read_schema(alloc, text.as_bytes()).map_err(|_| Memory)
     } else {
