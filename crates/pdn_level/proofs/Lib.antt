@@ -1,0 +1,13 @@
+pub mod Lists
+pub mod OperatorSlices
+pub mod LinkLaws
+pub mod Tracks
+pub mod Surveys
+pub mod Soundness
+pub mod Sums
+pub mod SegmentLaws
+pub mod PaddingLaws
+pub mod TableBounds
+pub mod PublicLeaves
+pub mod RootLaws
+pub mod UnitSums
