@@ -26,7 +26,7 @@ length-row_picks index len plane = length-map-range_with_len (λ row. record { l
 row_pick : (index len : ℕ) (plane : List ℕ) (r : ℕ) (other : Pick) → r < len → get_or (row_picks index len plane) r other ≡ record { list = index; row = r; gate = slice_index plane (r / 64) }
 row_pick index len plane r other h = get_or-map-range_with_len (λ row. record { list = index; row = row; gate = slice_index plane (row / 64) }) 0 len r r other h (omega arith)
 
-length-append_picks : (plane : PaddedList → List ℕ) (from : ℕ) (lists : List PaddedList) → length (append_picks plane from lists) ≡ length_of lists
+pub length-append_picks : (plane : PaddedList → List ℕ) (from : ℕ) (lists : List PaddedList) → length (append_picks plane from lists) ≡ length_of lists
 length-append_picks plane from [] = refl
 length-append_picks plane from (l ∷ ls) =
     omega (arith, length-append (row_picks from l.len (plane l)) (append_picks plane (from + 1) ls), length-row_picks from l.len (plane l), length-append_picks plane (from + 1) ls, sum_by-cons (λ (k : PaddedList). k.len) l ls)

@@ -10,14 +10,14 @@ use Rattle.pdn_base.specs.declared.value.Value.{Value}
 use Rattle.pdn_obl_rows.specs.Lists.{width_of, words_for, kind_at}
 use Rattle.pdn_obl_rows.specs.Encoding.{word_of, plane_words, bit_lane, column_words, columns_words}
 
-pub word_more : (f : ℕ → ℕ) (from i bits b : ℕ) → i < 64 → bits ≡ word_of f (from + (64 - i)) i → b ≡ f (from + (63 - i)) → 2 * bits + b ≡ word_of f (from + (64 - (i + 1))) (i + 1)
+pub word_more : (f : ℕ → ℕ) (from count i bits b : ℕ) → i < count → bits ≡ word_of f (from + (count - i)) i → b ≡ f (from + (count - 1 - i)) → 2 * bits + b ≡ word_of f (from + (count - (i + 1))) (i + 1)
 unfolding word_of
-word_more f from i bits b h e d =
-    let at : from + (64 - (i + 1)) ≡ from + (63 - i) = omega arith in
-    let more : from + (64 - i) ≡ from + (63 - i) + 1 = omega arith in
-    let count : suc i ≡ i + 1 = omega arith in
-    let here : 2 * bits + b ≡ word_of f (from + (63 - i)) (suc i) = omega (arith, e ∙ ap (λ n. word_of f n i) more) in
-    here ∙ ap₂ (word_of f) (sym at) count
+word_more f from count i bits b h e d =
+    let at : from + (count - (i + 1)) ≡ from + (count - 1 - i) = omega arith in
+    let more : from + (count - i) ≡ from + (count - 1 - i) + 1 = omega arith in
+    let next : suc i ≡ i + 1 = omega arith in
+    let here : 2 * bits + b ≡ word_of f (from + (count - 1 - i)) (suc i) = omega (arith, e ∙ ap (λ n. word_of f n i) more) in
+    here ∙ ap₂ (word_of f) (sym at) next
 
 pub range_more : (from count : ℕ) → range_with_len from (count + 1) ≡ range_with_len from count ++ (from + count) ∷ []
 range_more from zero = ap (λ n. n ∷ []) (let e : from ≡ from + 0 = omega arith in e)
@@ -26,11 +26,11 @@ range_more from (suc count) =
     let f : from + 1 + count ≡ from + suc count = omega arith in
     ap (range_with_len from) e ∙ ap (λ (xs : List ℕ). from ∷ xs) (range_more (from + 1) count ∙ ap (λ n. range_with_len (from + 1) count ++ n ∷ []) f)
 
-pub plane_more : (f : ℕ → ℕ) (base old new : List ℕ) (j x : ℕ) → old ≡ base ++ map f (range_with_len 0 j) → new ≡ old ++ x ∷ [] → x ≡ f j → new ≡ base ++ map f (range_with_len 0 (j + 1))
-plane_more f base old new j x e d is =
+pub plane_more : {X : Type 0} (f : ℕ → X) (base old new : List X) (j : ℕ) (x : X) → old ≡ base ++ map f (range_with_len 0 j) → new ≡ old ++ x ∷ [] → x ≡ f j → new ≡ base ++ map f (range_with_len 0 (j + 1))
+plane_more {X} f base old new j x e d is =
     let at : 0 + j ≡ j = omega arith in
-    d ∙ ap₂ (λ (xs : List ℕ) n. xs ++ n ∷ []) e is ∙ append_assoc base (map f (range_with_len 0 j)) (f j ∷ [])
-    ∙ ap (λ (xs : List ℕ). base ++ xs) (sym (ap (map f) (range_more 0 j ∙ ap (λ n. range_with_len 0 j ++ n ∷ []) at) ∙ map-append f (range_with_len 0 j) (j ∷ [])))
+    d ∙ ap₂ (λ (xs : List X) (n : X). xs ++ n ∷ []) e is ∙ append_assoc base (map f (range_with_len 0 j)) (f j ∷ [])
+    ∙ ap (λ (xs : List X). base ++ xs) (sym (ap (map f) (range_more 0 j ∙ ap (λ n. range_with_len 0 j ++ n ∷ []) at) ∙ map-append f (range_with_len 0 j) (j ∷ [])))
 
 pub column_more : (rows : List (List Value)) (len column bit : ℕ) (base old new : List ℕ) → old ≡ base ++ column_words rows len column bit → new ≡ old ++ plane_words (bit_lane rows column bit) len
     → new ≡ base ++ column_words rows len column (bit + 1)

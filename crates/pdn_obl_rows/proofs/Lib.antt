@@ -8,3 +8,9 @@ pub mod LaidLaws
 pub mod JoinLaws
 pub mod AppendLaws
 pub mod ShapeLaws
+pub mod Walks
+pub mod ThereLaws
+pub mod Picking
+pub mod DecodingLaws
+pub mod KeepLaws
+pub mod NumberRows

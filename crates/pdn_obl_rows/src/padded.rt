@@ -1,7 +1,9 @@
 //! A list of rows whose length alone is known: its rows stand in the lanes of gates.
 ghost use Rattle.std.specs.Prelude.{◌≡◌, ◌<◌, length, IfOk};
 ghost use Rattle.pdn_obl_rows.specs.Lists.{IsShaped, PaddedList, column_planes};
+ghost use Rattle.pdn_obl_rows.specs.Operators.{with_valid};
 
+use crate::projecting::push_planes;
 use crate::shape::width_at;
 use pdn_base::{Kind, Memory};
 use std::alloc::Global;
@@ -42,6 +44,13 @@ impl Model for Padded {
 }
 
 impl Plane {
+    /// Its gates, word by word.
+    pub fn words(&self) -> &[u32]
+        ensures { result.now ≡ self.now }
+    {
+        self.words.as_slice()
+    }
+
     /// An equal plane.
     pub fn copy(&self, alloc: Global) -> Result<Plane, Memory>
         ensures { IfOk result (λ plane. plane ≡ self.now) }
@@ -54,7 +63,7 @@ impl Plane {
 
 impl Padded {
     /// A list of these parts.
-    pub(crate) fn of(len: u32, valid: Vec<u32>, kinds: Vec<Kind>, planes: Vec<Plane>) -> Padded
+    pub fn of(len: u32, valid: Vec<u32>, kinds: Vec<Kind>, planes: Vec<Plane>) -> Padded
         requires { IsShaped (record { len = len; valid = valid.items; kinds = kinds.items; planes = planes.items }) }
         ensures { result ≡ record { len = len; valid = valid.items; kinds = kinds.items; planes = planes.items } }
     {
@@ -66,29 +75,52 @@ impl Padded {
         }
     }
 
-    pub(crate) fn valid(&self) -> &[u32]
-        ensures { result.now ≡ self.now.valid }
+    /// How many rows it has, with those that are not there.
+    pub fn len(&self) -> u32
+        ensures { result ≡ self.now.len }
+    {
+        self.len
+    }
+
+    /// The gates of the valid plane.
+    pub fn valid(&self) -> &[u32]
+        ensures valid { result.now ≡ self.now.valid }
+        ensures shaped { IsShaped self.now }
     {
         self.valid.as_slice()
     }
 
-    pub(crate) fn kinds(&self) -> &[Kind]
+    /// The columns' kinds.
+    pub fn kinds(&self) -> &[Kind]
         ensures { result.now ≡ self.now.kinds }
     {
         self.kinds.as_slice()
     }
 
-    pub(crate) fn planes(&self) -> &[Plane]
+    /// The planes of all columns.
+    pub fn planes(&self) -> &[Plane]
         ensures planes { result.now ≡ self.now.planes }
         ensures shaped { IsShaped self.now }
     {
         self.planes.as_slice()
     }
 
+    /// An equal list with another valid plane.
+    pub fn with_valid(&self, alloc: Global, valid: Vec<u32>) -> Result<Padded, Memory>
+        requires { length valid.items ≡ length self.now.valid }
+        ensures { IfOk result (λ out. out ≡ with_valid self.now valid.items) }
+    {
+        let kinds = Vec::from_slice(alloc, self.kinds())?;
+        let mut planes = Vec::new(alloc);
+        push_planes(alloc, &mut planes, self.planes())?;
+        Ok(Padded::of(self.len, valid, kinds, planes))
+    }
+
     /// A column's planes.
-    pub(crate) fn column(&self, column: usize) -> &[Plane]
+    pub fn column(&self, column: usize) -> &[Plane]
         requires { column < length self.now.kinds }
-        ensures { result.now ≡ column_planes self.now.kinds column self.now.planes }
+        ensures planes { result.now ≡ column_planes self.now.kinds column self.now.planes }
+        ensures shaped { IsShaped self.now }
     {
         let kinds = self.kinds();
         let mut planes = self.planes();

@@ -44,7 +44,12 @@ fn chosen_planes(alloc: Global, list: &Padded, columns: &[u32]) -> Result<Vec<Pl
     Ok(chosen)
 }
 
-fn push_planes(alloc: Global, planes: &mut Vec<Plane>, more: &[Plane]) -> Result<(), Memory>
+/// Adds equal planes.
+pub(crate) fn push_planes(
+    alloc: Global,
+    planes: &mut Vec<Plane>,
+    more: &[Plane],
+) -> Result<(), Memory>
     ensures { OnOk result (planes.new.items ≡ planes.old.items ++ more.now) }
 {
     for plane in more {

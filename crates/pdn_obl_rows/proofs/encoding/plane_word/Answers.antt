@@ -9,6 +9,6 @@ loop-i-init c = record { bits = refl; small = omega arith }
 
 pub loop-i-preserved : goal.loop-i-preserved
 loop-i-preserved c = record {
-  bits = word_more (lanes_of c.args.rows.now c.args.lanes.now) c.args.from c.loop-i.i c.loop-i.bits c.lane.result c.loop-i-test.true c.loop-i.invariant.bits c.lane.ensures.lane;
+  bits = word_more (lanes_of c.args.rows.now c.args.lanes.now) c.args.from 64 c.loop-i.i c.loop-i.bits c.lane.result c.loop-i-test.true c.loop-i.invariant.bits c.lane.ensures.lane;
   small = double_small c.loop-i.i c.loop-i.bits c.lane.result c.loop-i.invariant.small c.lane.ensures.bit;
 }
