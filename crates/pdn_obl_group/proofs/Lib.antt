@@ -1,0 +1,15 @@
+pub mod AgreeLaws
+pub mod LoopLaws
+pub mod CounterLaws
+pub mod RepeatLaws
+pub mod PlaneLaws
+pub mod DistinctLaws
+pub mod KeyLaws
+pub mod GroupLaws
+pub mod TallyLaws
+pub mod CutLaws
+pub mod Steps
+pub mod ValueSteps
+pub mod KeepLaws
+pub mod MentionSteps
+pub mod GroupSteps

@@ -1,0 +1,4 @@
+pub mod Loops
+pub mod Operators
+pub mod Means
+pub mod There
