@@ -1,0 +1,35 @@
+use Rattle.std.proofs.Common.{sym, ap, ap₂, ◌∙◌, ◌+◌, ◌*◌, ◌≡◌, ℕ, subst, length, arith}
+use Rattle.pdn_circuit.specs.declared.gate.Gate.TheVariants.{Input}
+use Rattle.pdn_circuit.specs.Gates.{input_count}
+use Rattle.pdn_circuit.specs.Building.{Stops, Makes}
+use Rattle.pdn_obl_rows.specs.Lists.{words_for}
+use Rattle.pdn_site.specs.Laying.{list_words, input_list}
+use Rattle.pdn_site.specs.Built.{words_gates}
+use Rattle.pdn_site.proofs.BuiltLaws.{lays_exit, input_stops, input_made, from_there, words_long}
+use Rattle.pdn_site.proofs.laying.input_list.Goals as goal
+
+pub returns-in_err-first-clause-made : goal.returns-in_err-first-clause-made
+returns-in_err-first-clause-made c = λ s.
+    let site = c.args.site in
+    let count : c.in-Some-list_words.count ≡ list_words c.args.kinds.now c.args.len = c.in-Some-list_words.ensures ∙ ap (λ p. (p + 1) * words_for c.args.len) c.in-Some.ensures in
+    lays_exit _ _ s s (input_list site c.args.kinds.now c.args.len) _ _ c.from_residual.ensures.1
+    (input_stops site c.args.kinds.now c.args.len _ _ s _ (subst (λ n. Stops c.args.b.now c.take_inputs.new.b (words_gates (Input site) (input_count site c.args.b.now.gates) n (length c.args.b.now.gates)) c.in_err-first.field-0.0) count c.in_err-first.ensures.made))
+
+pub list_from-requires-clause-few : goal.list_from-requires-clause-few
+list_from-requires-clause-few c =
+    let site = c.args.site in
+    let count : c.in-Some-list_words.count ≡ list_words c.args.kinds.now c.args.len = c.in-Some-list_words.ensures ∙ ap (λ p. (p + 1) * words_for c.args.len) c.in-Some.ensures in
+    omega (arith, count, c.in_ok-first.ensures.few, words_long (Input site) (input_count site c.args.b.now.gates) _ _ _ _ c.in_ok-first.ensures.made)
+
+pub returns-clause-made : goal.returns-clause-made
+returns-clause-made c = λ s.
+    let site = c.args.site in
+    let count : c.in-Some-list_words.count ≡ list_words c.args.kinds.now c.args.len = c.in-Some-list_words.ensures ∙ ap (λ p. (p + 1) * words_for c.args.len) c.in-Some.ensures in
+    input_made site c.args.kinds.now c.args.len _ _ s c.in_ok-first.first _ c.in_ok-list_from.ensures.gives
+    (subst (λ n. Makes c.args.b.now c.take_inputs.new.b (words_gates (Input site) (input_count site c.args.b.now.gates) n (length c.args.b.now.gates)) c.in_ok-first.first) count c.in_ok-first.ensures.made)
+
+pub returns-clause-there : goal.returns-clause-there
+returns-clause-there c =
+    let site = c.args.site in
+    let count : c.in-Some-list_words.count ≡ list_words c.args.kinds.now c.args.len = c.in-Some-list_words.ensures ∙ ap (λ p. (p + 1) * words_for c.args.len) c.in-Some.ensures in
+    from_there _ c.in_ok-first.first c.args.kinds.now c.args.len _ c.in_ok-list_from.ensures.gives (ap (λ n. c.in_ok-first.first + n) (sym count) ∙ words_long (Input site) (input_count site c.args.b.now.gates) _ _ _ _ c.in_ok-first.ensures.made)

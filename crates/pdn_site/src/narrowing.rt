@@ -1,0 +1,228 @@
+//! Trees whose leaves read only the rows that have a value in a column.
+ghost use Rattle.std.specs.Prelude.{◌≡◌, IfOk, drop};
+ghost use Rattle.pdn_plan.specs.declared.node.Node.TheVariants as node;
+ghost use Rattle.pdn_site.specs.Narrowing.{constant, has_value, narrowed_scan, scans, narrowed};
+
+use pdn_base::{Clause, Cmp, Cond, Key, Memory, Op, Operand, Term, Value};
+use pdn_level::Leaf;
+use pdn_plan::Node;
+use sqlite_items::{Boxed, Items};
+use std::alloc::Global;
+
+fn copy_clause(alloc: Global, clause: &Clause) -> Result<Clause, Memory>
+    ensures { IfOk result (λ copied. copied ≡ clause.now) }
+{
+    Ok(Clause {
+        any: Vec::from_slice(alloc, clause.any.as_slice())?,
+    })
+}
+
+fn copy_cond(alloc: Global, cond: &Cond) -> Result<Cond, Memory>
+    ensures { IfOk result (λ copied. copied ≡ cond.now) }
+{
+    let mut all = Vec::new(alloc);
+    for clause in &cond.all {
+        all.push(copy_clause(alloc, clause)?)?;
+    }
+    Ok(Cond { all })
+}
+
+fn constant(value: &Value) -> Operand
+    ensures { result ≡ constant value.now }
+{
+    match value {
+        Value::Int(n) => Operand::Int(*n),
+        Value::Code(code) => Operand::Code(*code),
+    }
+}
+
+/// The condition that a column has a value.
+fn has_value(alloc: Global, column: u32, value: &Value) -> Result<Cond, Memory>
+    ensures { IfOk result (λ cond. cond ≡ has_value column value.now) }
+{
+    let left = Term { column, plus: None };
+    let mut any = Vec::new(alloc);
+    any.push(Cmp {
+        left,
+        op: Op::Eq,
+        right: constant(value),
+    })?;
+    let mut all = Vec::new(alloc);
+    all.push(Clause { any })?;
+    Ok(Cond { all })
+}
+
+fn narrowed_scan(alloc: Global, table: u32, leaves: &[Leaf], value: &Value) -> Result<Node, Memory>
+    ensures { IfOk result (λ tree. tree ≡ narrowed_scan value.now table leaves.now) }
+{
+    let scan = Node::Scan { table };
+    let Some(leaf) = leaves.first() else {
+        return Ok(scan);
+    };
+    let cond = has_value(alloc, leaf.column, value)?;
+    let child = Boxed::new(alloc, scan)?;
+    Ok(Node::Filter { child, cond })
+}
+
+/// How many tables a tree reads.
+pub fn scans(node: &Node, value: &Value) -> Result<usize, Memory>
+    ensures { IfOk result (λ count. count ≡ scans value.now node.now) }
+{
+    match node {
+        Node::Scan { table: _ } => Ok(1),
+        Node::Filter { child, cond: _ } => scans(child.get(), value),
+        Node::Project { child, columns: _ } => scans(child.get(), value),
+        Node::Join { left, right, on: _ } => {
+            let l = scans(left.get(), value)?;
+            let r = scans(right.get(), value)?;
+            match l.checked_add(r) {
+                Some(count) => Ok(count),
+                None => Err(Memory),
+            }
+        }
+        Node::Group {
+            child,
+            keys: _,
+            having: _,
+        } => scans(child.get(), value),
+        Node::Count { child } => scans(child.get(), value),
+        Node::Distinct { child } => scans(child.get(), value),
+        Node::Number {
+            child,
+            partition: _,
+            order: _,
+        } => scans(child.get(), value),
+        Node::Top {
+            child,
+            order: _,
+            limit: _,
+        } => scans(child.get(), value),
+    }
+}
+
+/// The leaves after the first `count`.
+pub fn after(leaves: &[Leaf], count: usize) -> &[Leaf]
+    ensures { result.now ≡ drop count leaves.now }
+{
+    let first = if count < leaves.len() {
+        count
+    } else {
+        leaves.len()
+    };
+    &leaves[first..]
+}
+
+fn make_join(alloc: Global, left: Node, right: Node, on: &Cond) -> Result<Node, Memory>
+    ensures { IfOk result (λ tree. tree ≡ node.Join left right on.now) }
+{
+    let left = Boxed::new(alloc, left)?;
+    let right = Boxed::new(alloc, right)?;
+    let on = copy_cond(alloc, on)?;
+    Ok(Node::Join { left, right, on })
+}
+
+fn make_group(alloc: Global, child: Node, keys: &[u32], having: Option<u32>) -> Result<Node, Memory>
+    ensures { IfOk result (λ tree. tree ≡ node.Group child keys.now having) }
+{
+    let child = Boxed::new(alloc, child)?;
+    let keys = Items::from_slice(alloc, keys)?;
+    Ok(Node::Group {
+        child,
+        keys,
+        having,
+    })
+}
+
+fn make_number(alloc: Global, child: Node, partition: &[u32], order: &[Key]) -> Result<Node, Memory>
+    ensures { IfOk result (λ tree. tree ≡ node.Number child partition.now order.now) }
+{
+    let child = Boxed::new(alloc, child)?;
+    let partition = Items::from_slice(alloc, partition)?;
+    let order = Items::from_slice(alloc, order)?;
+    Ok(Node::Number {
+        child,
+        partition,
+        order,
+    })
+}
+
+fn make_top(alloc: Global, child: Node, order: &[Key], limit: Option<u32>) -> Result<Node, Memory>
+    ensures { IfOk result (λ tree. tree ≡ node.Top child order.now limit) }
+{
+    let child = Boxed::new(alloc, child)?;
+    let order = Items::from_slice(alloc, order)?;
+    Ok(Node::Top {
+        child,
+        order,
+        limit,
+    })
+}
+
+/// The tree in which each Scan that has a leaf, left to right, gives only the rows with the value in the leaf's column. With
+/// no leaves it is an equal tree.
+pub fn narrowed(alloc: Global, node: &Node, leaves: &[Leaf], value: &Value) -> Result<Node, Memory>
+    ensures { IfOk result (λ tree. tree ≡ narrowed value.now node.now leaves.now) }
+{
+    match node {
+        Node::Scan { table } => narrowed_scan(alloc, *table, leaves, value),
+        Node::Filter { child, cond } => {
+            let child = narrowed(alloc, child.get(), leaves, value)?;
+            let cond = copy_cond(alloc, cond)?;
+            let child = Boxed::new(alloc, child)?;
+            Ok(Node::Filter { child, cond })
+        }
+        Node::Project { child, columns } => {
+            let child = narrowed(alloc, child.get(), leaves, value)?;
+            let columns = Items::from_slice(alloc, columns.as_slice())?;
+            let child = Boxed::new(alloc, child)?;
+            Ok(Node::Project { child, columns })
+        }
+        Node::Join { left, right, on } => {
+            let l = narrowed(alloc, left.get(), leaves, value)?;
+            let rest = after(leaves, scans(left.get(), value)?);
+            let r = narrowed(alloc, right.get(), rest, value)?;
+            make_join(alloc, l, r, on)
+        }
+        Node::Group {
+            child,
+            keys,
+            having,
+        } => {
+            let child = narrowed(alloc, child.get(), leaves, value)?;
+            make_group(alloc, child, keys.as_slice(), *having)
+        }
+        Node::Count { child } => {
+            let child = narrowed(alloc, child.get(), leaves, value)?;
+            let child = Boxed::new(alloc, child)?;
+            Ok(Node::Count { child })
+        }
+        Node::Distinct { child } => {
+            let child = narrowed(alloc, child.get(), leaves, value)?;
+            let child = Boxed::new(alloc, child)?;
+            Ok(Node::Distinct { child })
+        }
+        Node::Number {
+            child,
+            partition,
+            order,
+        } => {
+            let child = narrowed(alloc, child.get(), leaves, value)?;
+            make_number(alloc, child, partition.as_slice(), order.as_slice())
+        }
+        Node::Top {
+            child,
+            order,
+            limit,
+        } => {
+            let child = narrowed(alloc, child.get(), leaves, value)?;
+            make_top(alloc, child, order.as_slice(), *limit)
+        }
+    }
+}
+
+/// An equal tree.
+pub fn copy_tree(alloc: Global, node: &Node) -> Result<Node, Memory>
+    ensures { IfOk result (λ tree. tree ≡ node.now) }
+{
+    narrowed(alloc, node, &[], &Value::Int(0))
+}

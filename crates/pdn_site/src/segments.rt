@@ -1,0 +1,56 @@
+//! The trees of segments.
+ghost use Rattle.std.specs.Prelude.{◌≡◌};
+ghost use Rattle.std.specs.Option.{option_copied};
+ghost use Rattle.pdn_plan.specs.declared.node.Node.{out-Node};
+ghost use Rattle.pdn_level.specs.Cutting.{child_of};
+ghost use Rattle.pdn_site.specs.Compiling.{node_at};
+
+use pdn_plan::Node;
+
+/// What a node reads at a step of the way down: 0 is the only or the left child, 1 the right one.
+fn child_of(node: &Node, way: u8) -> Option<&Node>
+    ensures { option_copied result ≡ child_of way (out-Node node.now) }
+{
+    match node {
+        Node::Scan { table: _ } => None,
+        Node::Filter { child, cond: _ } => Some(child.get()),
+        Node::Project { child, columns: _ } => Some(child.get()),
+        Node::Join { left, right, on: _ } => {
+            if way == 0 {
+                Some(left.get())
+            } else {
+                Some(right.get())
+            }
+        }
+        Node::Group {
+            child,
+            keys: _,
+            having: _,
+        } => Some(child.get()),
+        Node::Count { child } => Some(child.get()),
+        Node::Distinct { child } => Some(child.get()),
+        Node::Number {
+            child,
+            partition: _,
+            order: _,
+        } => Some(child.get()),
+        Node::Top {
+            child,
+            order: _,
+            limit: _,
+        } => Some(child.get()),
+    }
+}
+
+/// The tree at the end of a way from the root.
+pub fn node_at<'a>(root: &'a Node, path: &[u8]) -> &'a Node
+    ensures { result.now ≡ node_at path.now root.now }
+{
+    match path.split_first() {
+        None => root,
+        Some((way, rest)) => match child_of(root, *way) {
+            None => node_at(root, rest),
+            Some(child) => node_at(child, rest),
+        },
+    }
+}
