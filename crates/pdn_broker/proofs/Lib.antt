@@ -1,0 +1,4 @@
+pub mod Ordered
+pub mod RunLaws
+pub mod AnswerLaws
+pub mod UnitLaws

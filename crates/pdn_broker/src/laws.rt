@@ -1,0 +1,17 @@
+//! What the runs of a query come to.
+ghost use Rattle.pdn_broker.specs.Answering.{AnswersMean};
+ghost use Rattle.pdn_broker.specs.Units.{CompiledTell};
+
+/// Two halves run each secure unit of a query on both sites' words, and then the root on both sites' words and the shares that they
+/// put out. Whatever words were dealt, the root's two outputs, put together, hold the rows that the plan means over the union of
+/// both sites' tables; and in the plan's order these are its meaning as a list.
+pub fn answers_mean()
+    ensures { AnswersMean }
+{}
+
+/// Units that were compiled from both sites' directories, and whose circuits stand in order, are what the meaning of a query asks for:
+/// none passes a limit, the output words of the secure ones, one after the other, are those that the root takes, and the last is the
+/// root's.
+pub fn compiled_units_tell()
+    ensures { CompiledTell }
+{}

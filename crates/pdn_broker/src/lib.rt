@@ -1,0 +1,14 @@
+//! The answer of a query over both sites' tables, by two halves for each secure unit and for the root.
+#![tactic(auto)]
+
+mod answered;
+mod laws;
+mod opening;
+mod shares;
+mod unit_run;
+
+pub use answered::{Answered, Dealt};
+pub use laws::{answers_mean, compiled_units_tell};
+pub use opening::opened_rows;
+pub use shares::Shares;
+pub use unit_run::run_unit;
