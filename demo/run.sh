@@ -1,7 +1,7 @@
 #!/usr/bin/env bash
-# Answers the query of demo/q.sql over the rows of both sites, demo/a.rows and demo/b.rows. It runs the proved program
-# where the gate (.ci/run) has built it from the sources as they stand, else a quick build that is not proved. The key of
-# the tape is made from the system's random source where there is none.
+# Answers the query of demo/q.sql over the rows of both sites, demo/a_t.csv and demo/b_t.csv, by the schema
+# demo/net.schema. It runs the proved program where the gate (.ci/run) has built it from the sources as they stand, else a
+# quick build that is not proved. The key of the tape is made from the system's random source where there is none.
 set -u
 demo=$(cd "$(dirname "$0")" && pwd)
 crates=$(cd "$demo/../crates" && pwd)
@@ -22,4 +22,8 @@ if is_current; then
 fi
 echo "a quick build that is not proved (run .ci/run for the proved program):" >&2
 cd "$crates/pdn" || exit 1
-exec rt try --data q.sql="$demo/q.sql" --data a.rows="$demo/a.rows" --data b.rows="$demo/b.rows" --data tape.key="$demo/tape.key" -- run q.sql 1
+data=()
+for file in net.schema q.sql a_t.csv b_t.csv tape.key; do
+    data+=(--data "$file=$demo/$file")
+done
+exec rt try "${data[@]}" -- run q.sql 1

@@ -1,25 +1,24 @@
 -- What follows from the answer along a script, for every script.
-use Rattle.std.proofs.Common.{◌≡◌, ℕ, ◌++◌, List, [], refl, sym, ◌∙◌, None, Some, Option, inl, inr, ◌⊎◌, append-nil, append_assoc}
-use Rattle.std.specs.Io.KnownBytes.{Appends}
-use Rattle.std.specs.Option.{IfSome}
+use Rattle.std.proofs.Common.{◌≡◌, ℕ, ◌++◌, List, [], refl, sym, ◌∙◌, Option, inl, inr, ◌⊎◌, append-nil, append_assoc}
 use Rattle.pdn_base.specs.declared.status.Status.{Status}
 use Rattle.pdn_base.specs.declared.status.Status.TheVariants as status
 use Rattle.pdn_base.specs.declared.status.Who.{Who}
-use Rattle.pdn_base.specs.declared.status.Who.TheVariants.{Files, Sink}
-use Rattle.pdn.specs.Script.{Script, Finish, Say, Refuse, Read}
-use Rattle.pdn.specs.Walk.{Goes, End, Finished, NoMemory, PutFailed, Refused, Told, Wrote, Closes, Answers, Clears, Refusals, Texts, status_due, text_due}
+use Rattle.pdn_base.specs.declared.status.Who.TheVariants.{Sink}
+use Rattle.pdn.specs.Questions.{Told, Question, Gives, after}
+use Rattle.pdn.specs.Script.{Script, Finish, Say, Refuse, Ask}
+use Rattle.pdn.specs.Walk.{Goes, End, Finished, NoMemory, PutFailed, Refused, Fails, Wrote, Closes, Follows, Clears, Refusals, Texts, IsDue}
 
 -- with nothing to refuse and no fault a walk goes to its end
-goes_through : (rose : Who → Type 0) (told : Told) → ((who : Who) → rose who → ⊥) → (script : Script) (out : List ℕ) (end : End) → Clears told script → Goes rose told script out end →
+goes_through : (rose : Who → Type 0) → ((who : Who) → rose who → ⊥) → (told : Told) (script : Script) (out : List ℕ) (end : End) (now : Told) → Clears told script → Goes rose told script out end now →
     (end ≡ Finished) ⊎ (end ≡ NoMemory)
-goes_through rose told calm Finish out end clear w = w.1
-goes_through rose told calm (Refuse status line) out end clear w = absurd clear
-goes_through rose told calm (Say text rest) out end clear (inl w) = inr w.1
-goes_through rose told calm (Say text rest) out end clear (inr (inl w)) = absurd (calm Sink w.0)
-goes_through rose told calm (Say text rest) out end clear (inr (inr w)) = goes_through rose told calm rest w.0 end clear w.2
-goes_through rose told calm (Read name next) out end clear (inl w) = inr w.1
-goes_through rose told calm (Read name next) out end clear (inr (inl w)) = absurd (calm Files w.0)
-goes_through rose told calm (Read name next) out end clear (inr (inr w)) = goes_through rose told calm (next w.0) out end (clear w.0 w.1) w.2
+goes_through rose calm told Finish out end now clear w = w.2
+goes_through rose calm told (Refuse status line) out end now clear w = absurd clear
+goes_through rose calm told (Say text rest) out end now clear (inl w) = inr w.2
+goes_through rose calm told (Say text rest) out end now clear (inr (inl w)) = absurd (calm Sink w.3)
+goes_through rose calm told (Say text rest) out end now clear (inr (inr w)) = goes_through rose calm told rest w.0 end now clear w.2
+goes_through rose calm told (Ask question next) out end now clear (inl w) = inr w.2
+goes_through rose calm told (Ask question next) out end now clear (inr (inl w)) = let f : Fails rose question end = w.2 in absurd (calm f.who f.rise)
+goes_through rose calm told (Ask question next) out end now clear (inr (inr w)) = goes_through rose calm (after told question w.0) (next w.0) out end now (clear w.0 w.1) w.2
 
 closes_done : (rose : Who → Type 0) (end : End) (out : List ℕ) (result : Status) → (end ≡ Finished) ⊎ (end ≡ NoMemory) → Closes rose end out result →
     (result ≡ status.Done) ⊎ (result ≡ status.Memory)
@@ -30,29 +29,29 @@ closes_done rose PutFailed out result (inr e) c = cc
 closes_done rose (Refused refused line) out result (inl e) c = cc
 closes_done rose (Refused refused line) out result (inr e) c = cc
 
-pub completes : (rose : Who → Type 0) (told : Told) (script : Script) (out : List ℕ) (result : Status) → Answers rose told script out result →
+pub completes : (rose : Who → Type 0) (told : Told) (script : Script) (out : List ℕ) (result : Status) (now : Told) → Follows rose told script out result now →
     Clears told script → ((who : Who) → rose who → ⊥) → (result ≡ status.Done) ⊎ (result ≡ status.Memory)
-completes rose told script out result a clear calm = closes_done rose a.end a.last result (goes_through rose told calm script a.front a.end clear a.goes) a.closes
+completes rose told script out result now a clear calm = closes_done rose a.end a.last result (goes_through rose calm told script a.front a.end now clear a.goes) a.closes
 
 -- what holds of each refusal, and of a fault where a count rose, holds of the status
-module _ (rose : Who → Type 0) (told : Told) (P : Status → Type 0) (faults : (who : Who) → rose who → P (status.Unavailable who)) where
+module _ (rose : Who → Type 0) (P : Status → Type 0) (faults : (who : Who) → rose who → P (status.Unavailable who)) where
   abbrev EndHas : End → Type 0
   EndHas Finished = Unit {0}
   EndHas NoMemory = Unit {0}
   EndHas PutFailed = P (status.Unavailable Sink)
   EndHas (Refused refused line) = P refused
 
-  end_has : (script : Script) (out : List ℕ) (end : End) → Refusals told P script → Goes rose told script out end → EndHas end
-  end_has Finish out end r (none, inl e) = rw (e) tt
-  end_has Finish out end r (none, inr e) = rw (e) tt
-  end_has (Refuse refused line) out end r (none, inl e) = rw (e) r
-  end_has (Refuse refused line) out end r (none, inr e) = rw (e) tt
-  end_has (Say text rest) out end r (inl w) = rw (w.1) tt
-  end_has (Say text rest) out end r (inr (inl w)) = rw (w.3) (faults Sink w.0)
-  end_has (Say text rest) out end r (inr (inr w)) = end_has rest w.0 end r w.2
-  end_has (Read name next) out end r (inl w) = rw (w.1) tt
-  end_has (Read name next) out end r (inr (inl w)) = rw (w.2) (faults Files w.0)
-  end_has (Read name next) out end r (inr (inr w)) = end_has (next w.0) out end (r w.0 w.1) w.2
+  pub end_has : (told : Told) (script : Script) (out : List ℕ) (end : End) (now : Told) → Refusals told P script → Goes rose told script out end now → EndHas end
+  end_has told Finish out end now r (none, stays, inl e) = rw (e) tt
+  end_has told Finish out end now r (none, stays, inr e) = rw (e) tt
+  end_has told (Refuse refused line) out end now r (none, stays, inl e) = rw (e) r
+  end_has told (Refuse refused line) out end now r (none, stays, inr e) = rw (e) tt
+  end_has told (Say text rest) out end now r (inl w) = rw (w.2) tt
+  end_has told (Say text rest) out end now r (inr (inl w)) = rw (w.4) (faults Sink w.3)
+  end_has told (Say text rest) out end now r (inr (inr w)) = end_has told rest w.0 end now r w.2
+  end_has told (Ask question next) out end now r (inl w) = rw (w.2) tt
+  end_has told (Ask question next) out end now r (inr (inl w)) = let f : Fails rose question end = w.2 in rw (f.ends) (faults f.who f.rise)
+  end_has told (Ask question next) out end now r (inr (inr w)) = end_has (after told question w.0) (next w.0) out end now (r w.0 w.1) w.2
 
   closed_has : (end : End) (out : List ℕ) (result : Status) → P status.Done → P status.Memory → EndHas end → Closes rose end out result → P result
   closed_has Finished out result done memory h c = rw (c.1) done
@@ -60,44 +59,52 @@ module _ (rose : Who → Type 0) (told : Told) (P : Status → Type 0) (faults :
   closed_has PutFailed out result done memory h c = rw (c.1) h
   closed_has (Refused refused line) out result done memory h c = rw (c.0) h
 
-  pub status_has : (script : Script) (out : List ℕ) (result : Status) → P status.Done → P status.Memory → Refusals told P script → Answers rose told script out result → P result
-  status_has script out result done memory r a = closed_has a.end a.last result done memory (end_has script a.front a.end r a.goes) a.closes
+  pub status_has : (told : Told) (script : Script) (out : List ℕ) (result : Status) (now : Told) → P status.Done → P status.Memory → Refusals told P script →
+      Follows rose told script out result now → P result
+  status_has told script out result now done memory r a = closed_has a.end a.last result done memory (end_has told script a.front a.end now r a.goes) a.closes
 
 -- the whole text, where a walk ends without a refusal
-finished_text : (rose : Who → Type 0) (told : Told) (Q : List ℕ → Type 0) (script : Script) (out : List ℕ) (end : End) → end ≡ Finished →
-    Texts told Q script → Goes rose told script out end → Q out
-finished_text rose told Q Finish out end e t w = rw (w.0) t
-finished_text rose told Q (Refuse refused line) out end e t (none, inl is) = cc
-finished_text rose told Q (Refuse refused line) out end e t (none, inr is) = cc
-finished_text rose told Q (Say text rest) out end e t (inl (none, is)) = cc
-finished_text rose told Q (Say text rest) out end e t (inr (inl (up, k, front, is))) = cc
-finished_text rose told Q (Say text rest) out end e t (inr (inr w)) = rw (w.1) (finished_text rose told (λ more. Q (text ++ more)) rest w.0 end e t w.2)
-finished_text rose told Q (Read name next) out end e t (inl (none, is)) = cc
-finished_text rose told Q (Read name next) out end e t (inr (inl (up, none, is))) = cc
-finished_text rose told Q (Read name next) out end e t (inr (inr w)) = finished_text rose told Q (next w.0) out end e (t w.0 w.1) w.2
+finished_text : (rose : Who → Type 0) (told : Told) (Q : List ℕ → Told → Type 0) (script : Script) (out : List ℕ) (end : End) (now : Told) → end ≡ Finished →
+    Texts told Q script → Goes rose told script out end now → Q out now
+finished_text rose told Q Finish out end now e t w = rw (w.0, w.1) t
+finished_text rose told Q (Refuse refused line) out end now e t (none, stays, inl is) = cc
+finished_text rose told Q (Refuse refused line) out end now e t (none, stays, inr is) = cc
+finished_text rose told Q (Say text rest) out end now e t (inl (none, stays, is)) = cc
+finished_text rose told Q (Say text rest) out end now e t (inr (inl (k, front, stays, up, is))) = cc
+finished_text rose told Q (Say text rest) out end now e t (inr (inr w)) = rw (w.1) (finished_text rose told (λ more kept. Q (text ++ more) kept) rest w.0 end now e t w.2)
+finished_text rose told Q (Ask question next) out end now e t (inl (none, stays, is)) = cc
+finished_text rose told Q (Ask question next) out end now e t (inr (inl (none, stays, fails))) = let is = fails.ends in cc
+finished_text rose told Q (Ask question next) out end now e t (inr (inr w)) = finished_text rose (after told question w.0) Q (next w.0) out end now e (t w.0 w.1) w.2
 
--- what Done comes with, where no refusal is Done
-module _ (rose : Who → Type 0) (told : Told) (Q : List ℕ → Type 0) where
-  abbrev NotDone : Status → Type 0
-  NotDone refused = refused ≡ status.Done → ⊥
+-- ---- what Done and Memory come with, where no refusal is one of them
 
-  done_end : (script : Script) (front last out : List ℕ) (end : End) (result : Status) → out ≡ front ++ last → result ≡ status.Done →
-      Refusals told NotDone script → Texts told Q script → Goes rose told script front end → Closes rose end last result → Q out
-  done_end script front last out Finished result whole done r t w c = rw (whole, c.0, append-nil front) (finished_text rose told Q script front Finished refl t w)
-  done_end script front last out NoMemory result whole done r t w (none, is) = cc
-  done_end script front last out PutFailed result whole done r t w (none, is) = cc
-  done_end script front last out (Refused refused line) result whole done r t w (is, put) =
-      absurd (end_has rose told NotDone (λ who up e. cc) script front (Refused refused line) r w (sym is ∙ done))
+-- a status that a refusal may have
+pub record IsPlain (refused : Status) : Type 0 where
+  pub not_done : refused ≡ status.Done → ⊥
+  pub not_memory : refused ≡ status.Memory → ⊥
 
-  pub done_text : (script : Script) (out : List ℕ) (result : Status) → Refusals told NotDone script → Texts told Q script →
-      Answers rose told script out result → result ≡ status.Done → Q out
-  done_text script out result r t a done = done_end script a.front a.last out a.end result a.whole done r t a.goes a.closes
+module _ (rose : Who → Type 0) (told : Told) where
+  plain_end : (script : Script) (out : List ℕ) (refused : Status) (line : List ℕ) (now : Told) → Refusals told IsPlain script → Goes rose told script out (Refused refused line) now → IsPlain refused
+  plain_end script out refused line now r w = end_has rose IsPlain (λ who up. record { not_done = λ e. cc; not_memory = λ e. cc }) told script out (Refused refused line) now r w
 
--- where the files tell what they hold and no count rose
-module _ (rose : Who → Type 0) (calm : (who : Who) → rose who → ⊥) (held : List ℕ → Option (List ℕ)) where
-  abbrev told : Told
-  told = record { files = Some held }
+  done_end : (Q : List ℕ → Told → Type 0) (script : Script) (front last out : List ℕ) (end : End) (result : Status) (now : Told) → out ≡ front ++ last → result ≡ status.Done →
+      Refusals told IsPlain script → Texts told Q script → Goes rose told script front end now → Closes rose end last result → Q out now
+  done_end Q script front last out Finished result now whole done r t w c = rw (whole, c.0, append-nil front) (finished_text rose told Q script front Finished now refl t w)
+  done_end Q script front last out NoMemory result now whole done r t w (none, is) = cc
+  done_end Q script front last out PutFailed result now whole done r t w (none, is) = cc
+  done_end Q script front last out (Refused refused line) result now whole done r t w (is, put) = let p = plain_end script front refused line now r w in absurd (p.not_done (sym is ∙ done))
 
+  pub done_text : (Q : List ℕ → Told → Type 0) (script : Script) (out : List ℕ) (result : Status) (now : Told) → Refusals told IsPlain script → Texts told Q script →
+      Follows rose told script out result now → result ≡ status.Done → Q out now
+  done_text Q script out result now r t a done = done_end Q script a.front a.last out a.end result now a.whole done r t a.goes a.closes
+
+  -- a refusal's status isn't Memory
+  pub refused_plain : (script : Script) (out : List ℕ) (refused : Status) (line : List ℕ) (now : Told) → Refusals told IsPlain script → Goes rose told script out (Refused refused line) now →
+      refused ≡ status.Memory → ⊥
+  refused_plain script out refused line now r w = (plain_end script out refused line now r w).not_memory
+
+-- ---- what is due, where no count rose
+module _ (rose : Who → Type 0) (calm : (who : Who) → rose who → ⊥) where
   -- the line and the status that an end leads to
   abbrev line_of : End → List ℕ
   line_of (Refused refused line) = line
@@ -109,46 +116,47 @@ module _ (rose : Who → Type 0) (calm : (who : Who) → rose who → ⊥) (held
   status_of PutFailed = status.Unavailable Sink
   status_of (Refused refused line) = refused
 
-  abbrev IsDue : Script → List ℕ → End → Type 0
-  IsDue script out end = (end ≡ NoMemory) ⊎ ((text_due held script ≡ out ++ line_of end) × (status_due held script ≡ status_of end))
+  abbrev EndDue : Told → Script → List ℕ → End → Told → Type 0
+  EndDue told script out end now = (end ≡ NoMemory) ⊎ IsDue told script (status_of end) (out ++ line_of end) now
 
-  due_more : (text : List ℕ) (rest : Script) (out more : List ℕ) (end : End) → out ≡ text ++ more → IsDue rest more end → IsDue (Say text rest) out end
-  due_more text rest out more end e (inl short) = inl short
-  due_more text rest out more end e (inr due) = inr (rw (e, due.0) (sym (append_assoc text more (line_of end))), due.1)
+  due_more : (told : Told) (text : List ℕ) (rest : Script) (out more : List ℕ) (end : End) (now : Told) → out ≡ text ++ more → EndDue told rest more end now → EndDue told (Say text rest) out end now
+  due_more told text rest out more end now e (inl short) = inl short
+  due_more told text rest out more end now e (inr due) = inr (more ++ line_of end, rw (e) (append_assoc text more (line_of end)), due)
 
-  due_end : (script : Script) (out : List ℕ) (end : End) → Goes rose told script out end → IsDue script out end
-  due_end Finish out end (none, inl is) = inr (rw (none, is) refl, rw (is) refl)
-  due_end Finish out end (none, inr is) = inl is
-  due_end (Refuse refused line) out end (none, inl is) = inr (rw (none, is) refl, rw (is) refl)
-  due_end (Refuse refused line) out end (none, inr is) = inl is
-  due_end (Say text rest) out end (inl w) = inl w.1
-  due_end (Say text rest) out end (inr (inl w)) = absurd (calm Sink w.0)
-  due_end (Say text rest) out end (inr (inr w)) = due_more text rest out w.0 end w.1 (due_end rest w.0 end w.2)
-  due_end (Read name next) out end (inl w) = inl w.1
-  due_end (Read name next) out end (inr (inl w)) = absurd (calm Files w.0)
-  due_end (Read name next) out end (inr (inr w)) = rw (w.1) (due_end (next w.0) out end w.2)
+  due_end : (told : Told) (script : Script) (out : List ℕ) (end : End) (now : Told) → Goes rose told script out end now → EndDue told script out end now
+  due_end told Finish out end now (none, stays, inl is) = inr (rw (is) refl, rw (none, is) refl, stays)
+  due_end told Finish out end now (none, stays, inr is) = inl is
+  due_end told (Refuse refused line) out end now (none, stays, inl is) = inr (rw (is) refl, rw (none, is) refl, stays)
+  due_end told (Refuse refused line) out end now (none, stays, inr is) = inl is
+  due_end told (Say text rest) out end now (inl w) = inl w.2
+  due_end told (Say text rest) out end now (inr (inl w)) = absurd (calm Sink w.3)
+  due_end told (Say text rest) out end now (inr (inr w)) = due_more told text rest out w.0 end now w.1 (due_end told rest w.0 end now w.2)
+  due_end told (Ask question next) out end now (inl w) = inl w.2
+  due_end told (Ask question next) out end now (inr (inl w)) = let f : Fails rose question end = w.2 in absurd (calm f.who f.rise)
+  due_end told (Ask question next) out end now (inr (inr w)) = elim (due_end (after told question w.0) (next w.0) out end now w.2) [
+    | inl short ↦ inl short
+    | inr due ↦ inr (w.0, w.1, due)
+  ]
 
-  due_closed : (script : Script) (front last out : List ℕ) (end : End) (result : Status) → out ≡ front ++ last → IsDue script front end → Closes rose end last result →
-      (result ≡ status.Memory) ⊎ ((result ≡ status_due held script) × (out ≡ text_due held script))
-  due_closed script front last out Finished result whole (inl short) c = cc
-  due_closed script front last out Finished result whole (inr due) c = inr (c.1 ∙ sym due.1, whole ∙ rw (c.0) (sym due.0))
-  due_closed script front last out NoMemory result whole d c = inl c.1
-  due_closed script front last out PutFailed result whole (inl short) c = cc
-  due_closed script front last out PutFailed result whole (inr due) c = inr (c.1 ∙ sym due.1, whole ∙ rw (c.0) (sym due.0))
-  due_closed script front last out (Refused refused line) result whole (inl short) c = cc
-  due_closed script front last out (Refused refused line) result whole (inr due) (is, inl put) = inr (is ∙ sym due.1, whole ∙ rw (put) (sym due.0))
-  due_closed script front last out (Refused refused line) result whole (inr due) (is, inr rise) = absurd (calm Sink rise.0)
+  due_closed : (told : Told) (script : Script) (front last out : List ℕ) (end : End) (result : Status) (now : Told) → out ≡ front ++ last → EndDue told script front end now → Closes rose end last result →
+      (result ≡ status.Memory) ⊎ IsDue told script result out now
+  due_closed told script front last out Finished result now whole (inl short) c = cc
+  due_closed told script front last out Finished result now whole (inr due) c = inr (rw (whole, c.0, c.1) due)
+  due_closed told script front last out NoMemory result now whole d c = inl c.1
+  due_closed told script front last out PutFailed result now whole (inl short) c = cc
+  due_closed told script front last out PutFailed result now whole (inr due) c = inr (rw (whole, c.0, c.1) due)
+  due_closed told script front last out (Refused refused line) result now whole (inl short) c = cc
+  due_closed told script front last out (Refused refused line) result now whole (inr due) (is, inl put) = inr (rw (whole, put, is) due)
+  due_closed told script front last out (Refused refused line) result now whole (inr due) (is, inr rise) = absurd (calm Sink rise.0)
 
-  pub is_due : (script : Script) (out : List ℕ) (result : Status) → Answers rose told script out result →
-      (result ≡ status.Memory) ⊎ ((result ≡ status_due held script) × (out ≡ text_due held script))
-  is_due script out result a = due_closed script a.front a.last out a.end result a.whole (due_end script a.front a.end a.goes) a.closes
+  is_due : (told : Told) (script : Script) (out : List ℕ) (result : Status) (now : Told) → Follows rose told script out result now →
+      (result ≡ status.Memory) ⊎ IsDue told script result out now
+  is_due told script out result now a = due_closed told script a.front a.last out a.end result now a.whole (due_end told script a.front a.end now a.goes) a.closes
 
--- the same, by what a sink has taken
-pub written_due : (rose : Who → Type 0) (files : Option (List ℕ → Option (List ℕ))) (script : Script) (old new : Option (List ℕ)) (result : Status) →
-    Wrote old new (λ text. Answers rose (record { files = files }) script text result) →
-    IfSome files (λ held. ((who : Who) → rose who → ⊥) → (result ≡ status.Memory) ⊎ ((result ≡ status_due held script) × Appends old new (text_due held script)))
-written_due rose None script old new result w = tt
-written_due rose (Some held) script old new result w = λ calm. elim (is_due rose calm held script w.0 result w.2) [
-  | inl short ↦ inl short
-  | inr due ↦ inr (due.0, rw (← due.1) w.1)
-]
+  -- the same, by what a sink has taken
+  pub written_due : (told : Told) (script : Script) (old new : Option (List ℕ)) (result : Status) (now : Told) → Wrote old new (λ text. Follows rose told script text result now) →
+      (result ≡ status.Memory) ⊎ Wrote old new (λ text. IsDue told script result text now)
+  written_due told script old new result now w = elim (is_due told script w.0 result now w.2) [
+    | inl short ↦ inl short
+    | inr due ↦ inr (w.0, w.1, due)
+  ]

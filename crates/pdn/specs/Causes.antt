@@ -1,52 +1,218 @@
 -- When each status may be answered.
-use Rattle.std.specs.Prelude.{◌≡◌, ◌⊎◌, ℕ, List, None, Some, codes}
+use Rattle.std.specs.Prelude.{◌≡◌, ◌⊎◌, ℕ, List, [], ◌∷◌, ◌++◌, length, None, Some, Option, Result, Ok, Err, codes}
+use Rattle.std.specs.List.{AllByRecursion}
+use Rattle.pdn_base.specs.declared.rows_err.RowsErr.{RowsErr}
+use Rattle.pdn_base.specs.declared.site.Site.{Site}
+use Rattle.pdn_base.specs.declared.site.Site.TheVariants.{A, B}
 use Rattle.pdn_base.specs.declared.status.Status.{Status}
 use Rattle.pdn_base.specs.declared.status.Status.TheVariants as status
 use Rattle.pdn_base.specs.declared.status.Who.{Who}
-use Rattle.pdn_base.specs.declared.site.Site.TheVariants.{A, B}
-use Rattle.pdn_base.specs.declared.rows_err.RowsErr.TheVariants.{TooMany}
-use Rattle.pdn.specs.Commands.{Run, task_of}
-use Rattle.pdn.specs.Inputs.{query_of, rows_of}
-use Rattle.pdn.specs.Script.{answer_text, count_of}
-use Rattle.pdn.specs.Stops.{HoldInputs}
-use Rattle.pdn.specs.Walk.{Told, Holds}
+use Rattle.pdn_base.specs.declared.value.Value.{Value}
+use Rattle.pdn_schema.specs.Models.{SchemaModel, TableModel, table_of}
+use Rattle.pdn_schema.specs.Rows.{IsValid, IsRefused}
+use Rattle.pdn_sql.specs.declared.query.Query.{Query}
+use Rattle.pdn.specs.Commands.{Task, Run, Check, Load, task_of}
+use Rattle.pdn.specs.declared.plan.Count.{Count}
+use Rattle.pdn.specs.Counting.{plan_of, AreAnswers}
+use Rattle.pdn.specs.Checking.{AreReported}
+use Rattle.pdn_schema.specs.Printing.{text_of}
+use Rattle.pdn_plan.specs.Plans.{PlanModel}
+use Rattle.pdn.specs.Questions.{Told, Unbound, Broken, Hidden, IsBound, Holds, Keeps, Answer, New, Again, Differs, OverRows, OverPer, Batch, Gives, kept_at, with_new, IsSchemaIn, AreQueriesIn, AreRowsIn}
+use Rattle.pdn.specs.Script.{table_number, loaded_text}
+use Rattle.pdn.specs.Stops.{Inputs}
+use Rattle.pdn_keeper.specs.Batches.{batch_held}
 
--- A run of a query is asked for, and its files hold these.
-pub record Asked (told : Told) (words : List (List ℕ)) : Type 0 where
+-- the file that a task reads besides the schema
+abbrev pub file_of : Task → List ℕ
+file_of (Run file workers) = file
+file_of (Check file) = file
+file_of (Load site table number file) = file
+
+-- A command reads a file of this name.
+abbrev pub Reads : List (List ℕ) → List ℕ → Type 0
+Reads words name = (task : Task) × (task_of words ≡ Some task) × ((name ≡ codes "net.schema") ⊎ (name ≡ file_of task))
+
+-- A command's files are there, and the schema file is refused so.
+pub record IsSchemaFault (told : Told) (words : List (List ℕ)) (line cause : ℕ) : Type 0 where
+  pub task : Task
+  pub asked : task_of words ≡ Some task
+  pub net : List ℕ
+  pub text : List ℕ
+  pub net_held : Holds told.files (codes "net.schema") (Some net)
+  pub text_held : Holds told.files (file_of task) (Some text)
+  pub is : IsSchemaIn net (Err (line, cause))
+
+-- A run is asked for, its files are there, and the schema file says this schema.
+pub record AskedRun (told : Told) (words : List (List ℕ)) : Type 0 where
   pub file : List ℕ
   pub workers : ℕ
+  pub s : SchemaModel
   pub sql : List ℕ
-  pub a : List ℕ
-  pub b : List ℕ
   pub asked : task_of words ≡ Some (Run file workers)
-  pub held : HoldInputs told.files file sql a b
+  pub inputs : Inputs told.files file s sql
 
--- A run reads a file of this name.
-abbrev pub Reads : List (List ℕ) → List ℕ → Type 0
-Reads words name = (file : List ℕ) × (workers : ℕ) × (task_of words ≡ Some (Run file workers)) × ((name ≡ file) ⊎ (name ≡ codes "a.rows") ⊎ (name ≡ codes "b.rows"))
+-- The SQL file besides says these queries.
+pub record AskedQueries (told : Told) (words : List (List ℕ)) : Type 0 where
+  pub run : AskedRun told words
+  pub queries : List Query
+  pub are : AreQueriesIn run.sql (Ok queries)
 
--- Why a command may answer each status: that the words ask for nothing, that a file it reads is not there, that the count
--- of that very object rose, that the files are there and the SQL file is not the one form, that the query is and a site's
--- rows are not, site A's first. Done and Memory have no cause here, and no other status is answered.
+-- a query that has a plan and is of the one form
+pub record IsTaken (s : SchemaModel) (query : Query) : Type 0 where
+  pub bound : PlanModel
+  pub binds : IsBound s query (Ok bound)
+  pub count : Count
+  pub plan : plan_of s query ≡ Some count
+
+-- one of these queries, each before which is answered
+pub record IsReached (s : SchemaModel) (queries : List Query) (query : Query) : Type 0 where
+  pub before : List Query
+  pub later : List Query
+  pub stands : queries ≡ before ++ query ∷ later
+  pub taken : AllByRecursion (IsTaken s) before
+
+-- a query is reached that has no plan, and this is why
+pub record IsUnbound (told : Told) (words : List (List ℕ)) (why : Unbound) : Type 0 where
+  pub all : AskedQueries told words
+  pub query : Query
+  pub reached : IsReached all.run.s all.queries query
+  pub is : IsBound all.run.s query (Err why)
+
+-- A check is asked for, its files are there, and the schema file says this schema.
+pub record AskedCheck (told : Told) (words : List (List ℕ)) : Type 0 where
+  pub file : List ℕ
+  pub s : SchemaModel
+  pub sql : List ℕ
+  pub asked : task_of words ≡ Some (Check file)
+  pub inputs : Inputs told.files file s sql
+
+-- The SQL file besides says these queries.
+pub record AskedReports (told : Told) (words : List (List ℕ)) : Type 0 where
+  pub check : AskedCheck told words
+  pub queries : List Query
+  pub are : AreQueriesIn check.sql (Ok queries)
+
+-- one of these queries is the first that has no plan, and this is why
+pub record IsUnreported (told : Told) (words : List (List ℕ)) (why : Unbound) : Type 0 where
+  pub all : AskedReports told words
+  pub before : List Query
+  pub query : Query
+  pub later : List Query
+  pub stands : all.queries ≡ before ++ query ∷ later
+  pub bound : AllByRecursion (λ q. (plan : PlanModel) × IsBound all.check.s q (Ok plan)) before
+  pub is : IsBound all.check.s query (Err why)
+
+-- binding refuses a query so, in a run or in a check
+abbrev pub CauseUnbound : Told → List (List ℕ) → Unbound → Type 0
+CauseUnbound told words why = IsUnbound told words why ⊎ IsUnreported told words why
+
+-- a query is reached that has a plan but isn't of the one form
+pub record IsUnplanned (told : Told) (words : List (List ℕ)) : Type 0 where
+  pub all : AskedQueries told words
+  pub query : Query
+  pub reached : IsReached all.run.s all.queries query
+  pub bound : PlanModel
+  pub binds : IsBound all.run.s query (Ok bound)
+  pub none : plan_of all.run.s query ≡ None
+
+-- the rows that a site handed over are refused, and those of A before are valid
+abbrev pub AreWrong : Told → TableModel → Site → RowsErr → Type 0
+AreWrong told t A wrong = (a : List (List Value)) × Keeps told.a t.name a × IsRefused t a wrong
+AreWrong told t B wrong = (a : List (List Value)) × Keeps told.a t.name a × IsValid t a × (b : List (List Value)) × Keeps told.b t.name b × IsRefused t b wrong
+
+-- a query is reached whose table has wrong rows
+pub record HasWrongRows (told : Told) (words : List (List ℕ)) (site : Site) (table : ℕ) (wrong : RowsErr) : Type 0 where
+  pub all : AskedQueries told words
+  pub query : Query
+  pub reached : IsReached all.run.s all.queries query
+  pub taken : IsTaken all.run.s query
+  pub is_table : table ≡ taken.count.table
+  pub are : AreWrong told (table_of all.run.s table) site wrong
+
+-- A load is asked for, its files are there, and the schema file says this schema.
+pub record AskedLoad (told : Told) (words : List (List ℕ)) : Type 0 where
+  pub site : Site
+  pub table : List ℕ
+  pub number : ℕ
+  pub file : List ℕ
+  pub s : SchemaModel
+  pub csv : List ℕ
+  pub asked : task_of words ≡ Some (Load site table number file)
+  pub inputs : Inputs told.files file s csv
+
+-- The table besides is one of the schema.
+pub record AskedTable (told : Told) (words : List (List ℕ)) : Type 0 where
+  pub load : AskedLoad told words
+  pub at : ℕ
+  pub is : table_number load.table load.s ≡ Some at
+
+-- The CSV file besides gives rows, and the site says this to them.
+pub record IsAnswered (told : Told) (words : List (List ℕ)) (answer : Answer) : Type 0 where
+  pub table : AskedTable told words
+  pub rows : List (List Value)
+  pub are : AreRowsIn (table_of table.load.s table.at) table.load.csv (Ok rows)
+  pub says : Gives told (Batch table.load.site (table_of table.load.s table.at) table.load.number rows) answer
+
+-- a run whose query isn't of the one form, a query that breaks a rule of binding, or a load of no table of the schema
+abbrev pub CausePlan : Told → List (List ℕ) → ℕ → List ℕ → Type 0
+CausePlan told words kind name = ((kind ≡ 0) × (name ≡ []) × IsUnplanned told words)
+    ⊎ CauseUnbound told words (Broken kind name)
+    ⊎ ((kind ≡ 1) × (load : AskedLoad told words) × (name ≡ load.table) × (table_number load.table load.s ≡ None))
+
+-- the SQL file of a run or of a check is refused so
+abbrev pub CauseSql : Told → List (List ℕ) → ℕ → ℕ → Type 0
+CauseSql told words place kind = ((run : AskedRun told words) × AreQueriesIn run.sql (Err (place, kind))) ⊎ ((check : AskedCheck told words) × AreQueriesIn check.sql (Err (place, kind)))
+
+abbrev pub CauseBound : Told → List (List ℕ) → Option ℕ → Type 0
+CauseBound told words None = IsAnswered told words OverRows
+CauseBound told words (Some column) = IsAnswered told words (OverPer column)
+
+-- Why a command may answer each status. Done and Memory have no cause here, and no other status is answered.
 abbrev pub Cause : (Who → Type 0) → Told → List (List ℕ) → Status → Type 0
 Cause rose told words status.Words = task_of words ≡ None
 Cause rose told words (status.NoFile name) = Reads words name × Holds told.files name None
 Cause rose told words (status.Unavailable who) = rose who
-Cause rose told words (status.Sql place kind) = (place ≡ 0) × (kind ≡ 1) × (i : Asked told words) × (query_of i.sql ≡ None)
-Cause rose told words (status.BadRows A table cause) = (table ≡ 0) × (cause ≡ TooMany) × (i : Asked told words) × (number : ℕ) × (query_of i.sql ≡ Some number) × (rows_of i.a ≡ None)
-Cause rose told words (status.BadRows B table cause) = (table ≡ 0) × (cause ≡ TooMany) × (i : Asked told words) × (number : ℕ) × (query_of i.sql ≡ Some number)
-    × (rows : List ℕ) × (rows_of i.a ≡ Some rows) × (rows_of i.b ≡ None)
+Cause rose told words (status.Schema line cause) = IsSchemaFault told words line cause
+Cause rose told words (status.Sql place kind) = CauseSql told words place kind
+Cause rose told words (status.Plan kind name) = CausePlan told words kind name
+Cause rose told words (status.Forbidden column label) = CauseUnbound told words (Hidden column label)
+Cause rose told words (status.BadRows site table wrong) = HasWrongRows told words site table wrong
+Cause rose told words (status.Csv entry cause) = (table : AskedTable told words) × AreRowsIn (table_of table.load.s table.at) table.load.csv (Err (entry, cause))
+Cause rose told words (status.BatchDiffers row) = IsAnswered told words (Differs row)
+Cause rose told words (status.OverBound column) = CauseBound told words column
 Cause rose told words status.Done = Unit {0}
 Cause rose told words status.Memory = Unit {0}
 Cause rose told words other = ⊥
 
--- The text is the count of the rows of both sites that are the query's number.
-pub record IsCount (told : Told) (words : List (List ℕ)) (text : List ℕ) : Type 0 where
-  pub inputs : Asked told words
-  pub number : ℕ
-  pub a : List ℕ
-  pub b : List ℕ
-  pub query : query_of inputs.sql ≡ Some number
-  pub rows_a : rows_of inputs.a ≡ Some a
-  pub rows_b : rows_of inputs.b ≡ Some b
-  pub printed : text ≡ answer_text (count_of number a b)
+-- ---- what Done comes with
+
+-- the queries' answers, and the keepers as they were
+pub record IsCounted (told : Told) (words : List (List ℕ)) (text : List ℕ) (now : Told) : Type 0 where
+  pub all : AskedQueries told words
+  pub answers : AreAnswers told.a told.b all.run.s 0 all.queries text
+  pub kept : now ≡ told
+
+-- the schema and the queries' reports, and the keepers as they were
+pub record IsChecked (told : Told) (words : List (List ℕ)) (text : List ℕ) (now : Told) : Type 0 where
+  pub all : AskedReports told words
+  pub reports : List ℕ
+  pub reported : AreReported all.check.s 1 all.queries reports
+  pub printed : text ≡ text_of all.check.s ++ reports
+  pub kept : now ≡ told
+
+-- the line of a batch that is now kept, or was before with these rows
+abbrev pub IsLoadedBy : {told : Told} {words : List (List ℕ)} → AskedTable told words → List (List Value) → List ℕ → Told → Type 0
+IsLoadedBy {told} table rows text now = let t = table_of table.load.s table.at in let load = table.load in
+    (Gives told (Batch load.site t load.number rows) New × (text ≡ loaded_text (codes "new") t.name load.number (length rows)) × (now ≡ with_new told load.site (batch_held t.name load.number rows)))
+    ⊎ (Gives told (Batch load.site t load.number rows) Again × (text ≡ loaded_text (codes "again") t.name load.number (length rows)) × (now ≡ told))
+
+pub record IsLoaded (told : Told) (words : List (List ℕ)) (text : List ℕ) (now : Told) : Type 0 where
+  pub table : AskedTable told words
+  pub rows : List (List Value)
+  pub are : AreRowsIn (table_of table.load.s table.at) table.load.csv (Ok rows)
+  pub loaded : IsLoadedBy table rows text now
+
+-- What is printed is the count of each query over both sites' rows, the schema with each query's report, or the line of the
+-- batch.
+abbrev pub IsDone : Told → List (List ℕ) → List ℕ → Told → Type 0
+IsDone told words text now = IsCounted told words text now ⊎ IsChecked told words text now ⊎ IsLoaded told words text now

@@ -1,6 +1,8 @@
-pub mod Commands
-pub mod Inputs
+pub mod Questions
 pub mod Script
+pub mod Counting
+pub mod Checking
+pub mod Commands
 pub mod Walk
 pub mod Stops
 pub mod Causes

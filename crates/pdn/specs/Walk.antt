@@ -1,35 +1,39 @@
 -- How a command may go along its script.
-use Rattle.std.specs.Prelude.{◌≡◌, ℕ, ◌⊎◌, List, [], ◌++◌, take, Option, None, Some, ⊤}
+use Rattle.std.specs.Prelude.{◌≡◌, ℕ, ◌⊎◌, List, [], ◌++◌, take, Option, None, Some}
 use Rattle.std.specs.Io.KnownBytes.{Appends}
 use Rattle.pdn_base.specs.Outside.{Rose}
 use Rattle.pdn_base.specs.Texts.{refusal}
 use Rattle.pdn_base.specs.declared.status.Status.{Status}
 use Rattle.pdn_base.specs.declared.status.Status.TheVariants as status
+use Rattle.pdn_base.specs.declared.site.Site.{Site}
+use Rattle.pdn_base.specs.declared.site.Site.TheVariants.{A, B}
 use Rattle.pdn_base.specs.declared.status.Who.{Who}
 use Rattle.pdn_base.specs.declared.status.Who.TheVariants.{Files, SiteA, SiteB, Desk, Sink}
-use Rattle.pdn.specs.Script.{Script, Finish, Say, Refuse, Read}
+use Rattle.pdn.specs.Questions.{Question, Reply, Told, asked_of, Gives, after, AfterFault}
+use Rattle.pdn.specs.Script.{Script, Finish, Say, Refuse, Ask}
 
 -- how often each outside object has failed
 pub record Counts : Type 0 where
   pub files : ℕ
+  pub a : ℕ
+  pub b : ℕ
   pub sink : ℕ
+
+abbrev pub counts : ℕ → ℕ → ℕ → ℕ → Counts
+counts files a b sink = record { files = files; a = a; b = b; sink = sink }
+
+-- the counts of a site and of the other one
+abbrev pub counts_at : Site → ℕ → ℕ → ℕ → ℕ → Counts
+counts_at A files own other sink = counts files own other sink
+counts_at B files own other sink = counts files other own sink
 
 -- the objects whose count rose between
 abbrev pub RoseIn : Counts → Counts → Who → Type 0
 RoseIn before now Files = Rose before.files now.files
 RoseIn before now Sink = Rose before.sink now.sink
-RoseIn before now SiteA = ⊥
-RoseIn before now SiteB = ⊥
+RoseIn before now SiteA = Rose before.a now.a
+RoseIn before now SiteB = Rose before.b now.b
 RoseIn before now Desk = ⊥
-
--- what the outside objects hold, each where it tells that
-pub record Told : Type 0 where
-  pub files : Option (List ℕ → Option (List ℕ))
-
--- The files hold this under the name, as far as they tell.
-abbrev pub Holds : Option (List ℕ → Option (List ℕ)) → List ℕ → Option (List ℕ) → Type 0
-Holds None name content = ⊤
-Holds (Some held) name content = held name ≡ content
 
 -- how the steps come to an end
 pub data End : Type 0 where
@@ -42,14 +46,22 @@ pub data End : Type 0 where
 abbrev pub fault : Who → End
 fault who = Refused (status.Unavailable who) (refusal [] [] (status.Unavailable who))
 
--- Gone along this script, with these bytes put, to this end: all the way, or to where memory ran out or an object failed.
-abbrev pub Goes : (Who → Type 0) → Told → Script → List ℕ → End → Type 0
-Goes rose told Finish out end = (out ≡ []) × ((end ≡ Finished) ⊎ (end ≡ NoMemory))
-Goes rose told (Refuse refused line) out end = (out ≡ []) × ((end ≡ Refused refused line) ⊎ (end ≡ NoMemory))
-Goes rose told (Say text rest) out end = ((out ≡ []) × (end ≡ NoMemory)) ⊎ (rose Sink × (k : ℕ) × (out ≡ take k text) × (end ≡ PutFailed))
-    ⊎ ((more : List ℕ) × (out ≡ text ++ more) × Goes rose told rest more end)
-Goes rose told (Read name next) out end = ((out ≡ []) × (end ≡ NoMemory)) ⊎ (rose Files × (out ≡ []) × (end ≡ fault Files))
-    ⊎ ((content : Option (List ℕ)) × Holds told.files name content × Goes rose told (next content) out end)
+-- the object that a question asks failed
+pub record Fails (rose : Who → Type 0) (question : Question) (end : End) : Type 0 where
+  pub who : Who
+  pub asked : asked_of question ≡ Some who
+  pub rise : rose who
+  pub ends : end ≡ fault who
+
+-- Gone along this script, with these bytes put, to this end, where the objects hold this: all the way, or to where memory
+-- ran out or an object failed.
+abbrev pub Goes : (Who → Type 0) → Told → Script → List ℕ → End → Told → Type 0
+Goes rose told Finish out end now = (out ≡ []) × (now ≡ told) × ((end ≡ Finished) ⊎ (end ≡ NoMemory))
+Goes rose told (Refuse refused line) out end now = (out ≡ []) × (now ≡ told) × ((end ≡ Refused refused line) ⊎ (end ≡ NoMemory))
+Goes rose told (Say text rest) out end now = ((out ≡ []) × (now ≡ told) × (end ≡ NoMemory)) ⊎ ((k : ℕ) × (out ≡ take k text) × (now ≡ told) × rose Sink × (end ≡ PutFailed))
+    ⊎ ((more : List ℕ) × (out ≡ text ++ more) × Goes rose told rest more end now)
+Goes rose told (Ask question next) out end now = ((out ≡ []) × (now ≡ told) × (end ≡ NoMemory)) ⊎ ((out ≡ []) × AfterFault told question now × Fails rose question end)
+    ⊎ ((reply : Reply question) × Gives told question reply × Goes rose (after told question reply) (next reply) out end now)
 
 -- A refusal's line is put, or a front of it where that put failed.
 abbrev pub Closes : (Who → Type 0) → End → List ℕ → Status → Type 0
@@ -58,13 +70,13 @@ Closes rose NoMemory out result = (out ≡ []) × (result ≡ status.Memory)
 Closes rose PutFailed out result = (out ≡ []) × (result ≡ status.Unavailable Sink)
 Closes rose (Refused refused line) out result = (result ≡ refused) × ((out ≡ line) ⊎ (rose Sink × (k : ℕ) × (out ≡ take k line)))
 
--- A command along this script put these bytes and answered this status.
-pub record Answers (rose : Who → Type 0) (told : Told) (script : Script) (out : List ℕ) (result : Status) : Type 0 where
+-- A command along this script put these bytes and answered this status; the objects now hold this.
+pub record Follows (rose : Who → Type 0) (told : Told) (script : Script) (out : List ℕ) (result : Status) (now : Told) : Type 0 where
   pub end : End
   pub front : List ℕ
   pub last : List ℕ
   pub whole : out ≡ front ++ last
-  pub goes : Goes rose told script front end
+  pub goes : Goes rose told script front end now
   pub closes : Closes rose end last result
 
 -- what a sink that tells it has taken
@@ -76,31 +88,26 @@ abbrev pub Clears : Told → Script → Type 0
 Clears told Finish = Unit {0}
 Clears told (Refuse refused line) = ⊥
 Clears told (Say text rest) = Clears told rest
-Clears told (Read name next) = (content : Option (List ℕ)) → Holds told.files name content → Clears told (next content)
+Clears told (Ask question next) = (reply : Reply question) → Gives told question reply → Clears (after told question reply) (next reply)
 
 -- Each refusal on a way along the script that the objects' content allows has P.
 abbrev pub Refusals : Told → (Status → Type 0) → Script → Type 0
 Refusals told P Finish = Unit {0}
 Refusals told P (Refuse refused line) = P refused
 Refusals told P (Say text rest) = Refusals told P rest
-Refusals told P (Read name next) = (content : Option (List ℕ)) → Holds told.files name content → Refusals told P (next content)
+Refusals told P (Ask question next) = (reply : Reply question) → Gives told question reply → Refusals (after told question reply) P (next reply)
 
--- The whole text of each way along the script that the objects' content allows, and that ends without a refusal, has Q.
-abbrev pub Texts : Told → (List ℕ → Type 0) → Script → Type 0
-Texts told Q Finish = Q []
+-- The whole text of each way along the script that the objects' content allows, and that ends without a refusal, has Q, with
+-- what the objects then hold.
+abbrev pub Texts : Told → (List ℕ → Told → Type 0) → Script → Type 0
+Texts told Q Finish = Q [] told
 Texts told Q (Refuse refused line) = Unit {0}
-Texts told Q (Say text rest) = Texts told (λ more. Q (text ++ more)) rest
-Texts told Q (Read name next) = (content : Option (List ℕ)) → Holds told.files name content → Texts told Q (next content)
+Texts told Q (Say text rest) = Texts told (λ more now. Q (text ++ more) now) rest
+Texts told Q (Ask question next) = (reply : Reply question) → Gives told question reply → Texts (after told question reply) Q (next reply)
 
--- the status that a script comes to over these files, and the text, its refusal's line included
-abbrev pub status_due : (List ℕ → Option (List ℕ)) → Script → Status
-status_due held Finish = status.Done
-status_due held (Refuse refused line) = refused
-status_due held (Say text rest) = status_due held rest
-status_due held (Read name next) = status_due held (next (held name))
-
-abbrev pub text_due : (List ℕ → Option (List ℕ)) → Script → List ℕ
-text_due held Finish = []
-text_due held (Refuse refused line) = line
-text_due held (Say text rest) = text ++ text_due held rest
-text_due held (Read name next) = text_due held (next (held name))
+-- The script comes to this status over these objects, with this text, its refusal's line included, and leaves them so.
+abbrev pub IsDue : Told → Script → Status → List ℕ → Told → Type 0
+IsDue told Finish result text now = (result ≡ status.Done) × (text ≡ []) × (now ≡ told)
+IsDue told (Refuse refused line) result text now = (result ≡ refused) × (text ≡ line) × (now ≡ told)
+IsDue told (Say said rest) result text now = (more : List ℕ) × (text ≡ said ++ more) × IsDue told rest result more now
+IsDue told (Ask question next) result text now = (reply : Reply question) × Gives told question reply × IsDue (after told question reply) (next reply) result text now

@@ -1,12 +1,17 @@
 //! The program of a private data network of two sites.
 #![tactic(auto)]
 
+mod bound;
+mod check;
 #[cfg(test)]
 mod circuit_tests;
 mod command;
+mod count;
+mod imports;
+mod inputs;
+mod load;
 mod one_count;
-mod query;
-mod rows;
+mod plan;
 mod run;
 mod shared_count;
 mod stop;
@@ -15,8 +20,10 @@ mod tests;
 mod top;
 
 use hex::FromHex;
-use pdn_base::{Files, RealFiles, Sink, Status, StdSink};
+use imports::{ImportErr, import_tables, schema_there};
+use pdn_base::{Files, RealFiles, Sink, Site, Status, StdSink};
 use pdn_dealer::ChaChaDeal;
+use pdn_keeper::MemSite;
 use std::alloc::Global;
 use std::io::ErrorKind;
 use std::process::ExitCode;
@@ -25,9 +32,14 @@ use std::{env, io};
 use top::pdn;
 
 const HELP: &str = "\
-pdn run <sqlfile> <workers>   answers the query of the file over the rows of both sites, with the key of tape.key
-pdn --help                    prints this
-pdn --version                 prints the version
+pdn run <sqlfile> <workers>                      answers the queries of the file over the rows of both sites
+pdn check <sqlfile>                              prints the schema, and each query's form, columns and segments
+pdn load <a or b> <table> <batch> <csvfile>      gives a site a batch of a table
+pdn --help                                       prints this
+pdn --version                                    prints the version
+
+The schema is the file net.schema, the key of the tape the file tape.key. A site's rows are those of the files
+a_<table>.csv and b_<table>.csv that are there.
 ";
 
 const VERSION: &str = "pdn 0.1.0\n";
@@ -52,11 +64,54 @@ fn main(rt: HostRuntime) -> ExitCode {
     let mut files = RealFiles::new(&rt);
     let Some(key) = read_key(alloc, &mut files) else {
         // Where this put fails, there is nothing left to say.
-        let _put = out.put(b"fault 1 tape.key\n");
+        let _put = put_fault(alloc, &mut out, "tape.key");
         return ExitCode::FAILURE;
     };
+    let (mut site_a, mut site_b) = (empty_site(alloc), empty_site(alloc));
+    match import_sites(alloc, &mut files, &mut site_a, &mut site_b) {
+        Ok(()) => {}
+        Err(ImportErr::Memory) => return ExitCode::from(Status::Memory.code()),
+        Err(ImportErr::File(name)) => {
+            let _put = put_fault(alloc, &mut out, name.as_str());
+            return ExitCode::FAILURE;
+        }
+    }
     let deal = ChaChaDeal::new(key);
-    ExitCode::from(pdn(alloc, &words, &mut files, &mut out, &deal).code())
+    let status = pdn(
+        alloc,
+        &words,
+        &mut files,
+        &mut site_a,
+        &mut site_b,
+        &mut out,
+        &deal,
+    );
+    ExitCode::from(status.code())
+}
+
+// A site that keeps nothing yet.
+fn empty_site(alloc: Global) -> MemSite {
+    MemSite::new(Vec::new(alloc), Vec::new(alloc))
+}
+
+// Each site's rows, where the schema can be read; else the sites stay empty.
+fn import_sites(
+    alloc: Global,
+    files: &mut impl Files,
+    site_a: &mut MemSite,
+    site_b: &mut MemSite,
+) -> Result<(), ImportErr> {
+    let Some(schema) = schema_there(alloc, files) else {
+        return Ok(());
+    };
+    import_tables(alloc, Site::A, &schema, files, site_a)?;
+    import_tables(alloc, Site::B, &schema, files, site_b)
+}
+
+// The line that names a file that can't serve.
+fn put_fault(alloc: Global, out: &mut impl Sink, name: &str) -> Option<()> {
+    let line = format!(in alloc; "fault 1 {name}\n").ok()?;
+    out.put(line.as_bytes()).ok()
 }
 
 // The words after the program's name.

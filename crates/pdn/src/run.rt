@@ -1,103 +1,99 @@
-//! `run`: answers the query over the rows of both sites.
-ghost use Rattle.std.specs.Prelude.{◌≡◌, ◌≤◌, [], IfOk, MatchResult, Some};
-ghost use Rattle.std.specs.String.{string_bytes};
-ghost use Rattle.pdn_base.specs.Outside.{Rose};
-ghost use Rattle.pdn.specs.Inputs.{query_of, rows_of};
-ghost use Rattle.pdn.specs.Script.{run_script, verdict, answer_text, Say, Finish};
-ghost use Rattle.pdn.specs.Stops.{end_of, stop_of, Missed, StopsAt, HoldInputs};
-ghost use Rattle.pdn.specs.Walk.{Goes, Wrote, RoseIn, Holds};
+//! `run`: answers each query of a file over the rows of both sites.
+ghost use Rattle.std.specs.Prelude.{◌≡◌, ◌≤◌, ◌<◌, ◌^◌, ◌-◌, ℕ, List, Option, IfErr, OnOk};
+ghost use Rattle.pdn.specs.Commands.{run_script};
+ghost use Rattle.pdn.specs.Counting.{IsAnswer, queries_script};
+ghost use Rattle.pdn.specs.Questions.{told_by};
+ghost use Rattle.pdn.specs.Stops.{end_of, StopsQuery};
+ghost use Rattle.pdn.specs.Walk.{Goes, Wrote, RoseIn, counts};
 
-use crate::query::read_query;
-use crate::rows::count;
-use crate::shared_count::shared_count;
-use crate::stop::{Stop, refused, refused_rows};
-use pdn_base::{FileErr, Files, Memory, Name, Sink, SinkErr, Site, Status, Who};
+use crate::count::count_answer;
+use crate::inputs::{queries_of, read_inputs};
+use crate::stop::Stop;
+use pdn_base::{Files, Sink, SinkErr};
 use pdn_dealer::Deal;
+use pdn_keeper::SiteKeeper;
+use pdn_schema::Schema;
+use pdn_sql::Query;
 use std::alloc::Global;
 
-/// Counts over the rows of both sites, and puts the answer.
-pub fn run<F: Files, S: Sink, D: Deal>(
+/// Answers the queries of the file in order, each in one put, up to the first that is refused.
+pub fn run<F: Files, K: SiteKeeper, S: Sink, D: Deal>(
     alloc: Global,
     file: &str,
     files: &mut F,
+    site_a: &mut K,
+    site_b: &mut K,
     out: &mut S,
     deal: &D,
 ) -> Result<(), Stop>
     ensures goes { Wrote (S.written out.old) (S.written out.new) (λ text.
-        Goes (RoseIn (record { files = F.faults files.old; sink = S.faults out.old }) (record { files = F.faults files.new; sink = S.faults out.new }))
-        (record { files = F.held files.old }) (run_script file.now) text (end_of result)) }
+        Goes (RoseIn (counts (F.faults files.old) (K.faults site_a.old) (K.faults site_b.old) (S.faults out.old)) (counts (F.faults files.new) (K.faults site_a.new) (K.faults site_b.new) (S.faults out.new)))
+        (told_by (F.held files.old) (K.batches site_a.old) (K.batches site_b.old)) (run_script file.now) text (end_of result)
+        (told_by (F.held files.old) (K.batches site_a.old) (K.batches site_b.old))) }
+    ensures same { F.held files.new ≡ F.held files.old }
+    ensures same_a { K.batches site_a.new ≡ K.batches site_a.old }
+    ensures same_b { K.batches site_b.new ≡ K.batches site_b.old }
     ensures files_later { F.faults files.old ≤ F.faults files.new }
+    ensures later_a { K.faults site_a.old ≤ K.faults site_a.new }
+    ensures later_b { K.faults site_b.old ≤ K.faults site_b.new }
     ensures sink_later { S.faults out.old ≤ S.faults out.new }
 {
     let inputs = read_inputs(alloc, file, files)?;
-    let text = answer(alloc, deal, &inputs.sql, &inputs.a, &inputs.b)?;
+    let queries = queries_of(alloc, &inputs.text)?;
+    answer_all(alloc, &inputs.schema, &queries, site_a, site_b, out, deal)
+}
+
+// Each query in order. The ticket of an accepted one is the number of those before it.
+fn answer_all<K: SiteKeeper, S: Sink, D: Deal>(
+    alloc: Global,
+    schema: &Schema,
+    queries: &[Query],
+    site_a: &mut K,
+    site_b: &mut K,
+    out: &mut S,
+    deal: &D,
+) -> Result<(), Stop>
+    ensures goes { Wrote (S.written out.old) (S.written out.new) (λ text. (files : Option (List ℕ → Option (List ℕ))) →
+        Goes (RoseIn (counts 0 (K.faults site_a.old) (K.faults site_b.old) (S.faults out.old)) (counts 0 (K.faults site_a.new) (K.faults site_b.new) (S.faults out.new)))
+        (told_by files (K.batches site_a.old) (K.batches site_b.old)) (queries_script schema.now 0 queries.now) text (end_of result)
+        (told_by files (K.batches site_a.old) (K.batches site_b.old))) }
+    ensures same_a { K.batches site_a.new ≡ K.batches site_a.old }
+    ensures same_b { K.batches site_b.new ≡ K.batches site_b.old }
+    ensures later_a { K.faults site_a.old ≤ K.faults site_a.new }
+    ensures later_b { K.faults site_b.old ≤ K.faults site_b.new }
+    ensures sink_later { S.faults out.old ≤ S.faults out.new }
+{
+    for (i, query) in queries.iter().enumerate() {
+        answer(alloc, schema, i as u64, query, site_a, site_b, out, deal)?;
+    }
+    Ok(())
+}
+
+// One query's answer, in one put.
+fn answer<K: SiteKeeper, S: Sink, D: Deal>(
+    alloc: Global,
+    schema: &Schema,
+    ticket: u64,
+    query: &Query,
+    site_a: &mut K,
+    site_b: &mut K,
+    out: &mut S,
+    deal: &D,
+) -> Result<(), Stop>
+    requires { ticket < 2 ^ 64 - 1 }
+    ensures answer { OnOk result (Wrote (S.written out.old) (S.written out.new) (IsAnswer (K.batches site_a.old) (K.batches site_b.old) schema.now ticket query.now)) }
+    ensures stops { IfErr result (λ stop. Wrote (S.written out.old) (S.written out.new) (λ text.
+        StopsQuery (RoseIn (counts 0 (K.faults site_a.old) (K.faults site_b.old) (S.faults out.old)) (counts 0 (K.faults site_a.new) (K.faults site_b.new) (S.faults out.new)))
+        (K.batches site_a.old) (K.batches site_b.old) schema.now ticket query.now text stop)) }
+    ensures same_a { K.batches site_a.new ≡ K.batches site_a.old }
+    ensures same_b { K.batches site_b.new ≡ K.batches site_b.old }
+    ensures later_a { K.faults site_a.old ≤ K.faults site_a.new }
+    ensures later_b { K.faults site_b.old ≤ K.faults site_b.new }
+    ensures sink_later { S.faults out.old ≤ S.faults out.new }
+{
+    let text = count_answer(alloc, schema, ticket, query, site_a, site_b, deal)?;
     match out.put(text.as_bytes()) {
         Ok(()) => Ok(()),
         Err(SinkErr::Failed) => Err(Stop::Sink),
     }
-}
-
-// What the files of a run hold.
-#[derive(Drop)]
-struct Inputs {
-    sql: Vec<u8>,
-    a: Vec<u8>,
-    b: Vec<u8>,
-}
-
-// The SQL file, then the rows of A, then those of B.
-fn read_inputs<F: Files>(alloc: Global, file: &str, files: &mut F) -> Result<Inputs, Stop>
-    ensures read { MatchResult result (λ inputs. HoldInputs (F.held files.old) file.now inputs.sql.items inputs.a.items inputs.b.items)
-        (λ stop. Goes (RoseIn (record { files = F.faults files.old; sink = 0 }) (record { files = F.faults files.new; sink = 0 }))
-        (record { files = F.held files.old }) (run_script file.now) [] (stop_of stop)) }
-    ensures later { F.faults files.old ≤ F.faults files.new }
-{
-    let sql = read(alloc, files, file)?;
-    let a = read(alloc, files, "a.rows")?;
-    let b = read(alloc, files, "b.rows")?;
-    Ok(Inputs { sql, a, b })
-}
-
-// A file's bytes, or the refusal.
-fn read<F: Files>(alloc: Global, files: &mut F, name: &str) -> Result<Vec<u8>, Stop>
-    ensures read { MatchResult result (λ bytes. Holds (F.held files.old) name.now (Some bytes.items))
-        (λ stop. Missed (Rose (F.faults files.old) (F.faults files.new)) (F.held files.old) name.now stop) }
-    ensures same { F.held files.new ≡ F.held files.old }
-    ensures later { F.faults files.old ≤ F.faults files.new }
-{
-    match files.read(alloc, name) {
-        Ok(bytes) => Ok(bytes),
-        Err(FileErr::Memory) => Err(Stop::Memory),
-        Err(FileErr::Absent) => Err(refused(
-            alloc,
-            Status::NoFile {
-                name: Name::new(alloc, name)?,
-            },
-        )),
-        Err(FileErr::Failed) => Err(refused(alloc, Status::Unavailable { who: Who::Files })),
-    }
-}
-
-// The answer's text, from what the files hold. What each site counts alone goes into its own half of the shared count.
-fn answer<D: Deal>(alloc: Global, deal: &D, sql: &[u8], a: &[u8], b: &[u8]) -> Result<String, Stop>
-    ensures { let script = verdict (query_of sql.now) (rows_of a.now) (rows_of b.now) in
-        MatchResult result (λ text. script ≡ Say (string_bytes text) Finish) (λ stop. StopsAt script stop) }
-{
-    let Some(number) = read_query(sql) else {
-        return Err(refused(alloc, Status::Sql { place: 0, kind: 1 }));
-    };
-    let Some(in_a) = count(a, number) else {
-        return Err(refused_rows(alloc, Site::A));
-    };
-    let Some(in_b) = count(b, number) else {
-        return Err(refused_rows(alloc, Site::B));
-    };
-    let total = shared_count(alloc, deal, 0, in_a, in_b)?;
-    Ok(answer_text(alloc, total)?)
-}
-
-fn answer_text(alloc: Global, count: u32) -> Result<String, Memory>
-    ensures { IfOk result (λ text. string_bytes text ≡ answer_text count) }
-{
-    Ok(format!(in alloc; "query 1 ticket 0 rows 1\ncount\n{count}\n")?)
 }

@@ -1,10 +1,9 @@
 //! Why a command stops before its end.
-ghost use Rattle.std.specs.Prelude.{◌≡◌, [], codes};
+ghost use Rattle.std.specs.Prelude.{◌≡◌, []};
 ghost use Rattle.pdn.specs.declared.stop.Stop.TheVariants.{Memory};
-ghost use Rattle.pdn.specs.Script.{bad_rows};
 ghost use Rattle.pdn.specs.Stops.{IsRefusal};
 
-use pdn_base::{RowsErr, Site, Status};
+use pdn_base::Status;
 use std::alloc::{AllocError, Global};
 
 /// Why a command stops before its end.
@@ -40,20 +39,8 @@ pub fn refused(alloc: Global, status: Status) -> Stop
     refused_at(alloc, status, "", "")
 }
 
-/// The refusal of a site's rows of the table `t`.
-pub fn refused_rows(alloc: Global, site: Site) -> Stop
-    ensures { IsRefusal (codes "t") [] (bad_rows site) result }
-{
-    let status = Status::BadRows {
-        site,
-        table: 0,
-        cause: RowsErr::TooMany,
-    };
-    refused_at(alloc, status, "t", "")
-}
-
-// A refusal that speaks of the table and the column of these names.
-fn refused_at(alloc: Global, status: Status, table: &str, column: &str) -> Stop
+/// A refusal that speaks of the table and the column of these names.
+pub fn refused_at(alloc: Global, status: Status, table: &str, column: &str) -> Stop
     ensures { IsRefusal table.now column.now status result }
 {
     match status.line(alloc, table, column) {

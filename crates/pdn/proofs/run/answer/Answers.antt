@@ -1,18 +1,28 @@
-use Rattle.std.specs.Prelude.{codes}
-use Rattle.std.proofs.Common.{[], sym, ap, ◌∙◌}
-use Rattle.pdn.specs.Script.{answer_text}
-use Rattle.pdn.proofs.Verdicts.{bad_a, bad_b, counted, stops}
+use Rattle.std.proofs.Common.{rules, [], refl}
+use Rattle.std.proofs.lemmas.Result.{err_from_is_err_and}
+use Rattle.pdn.specs.Walk.{Counts, RoseIn, counts}
+use Rattle.pdn.specs.declared.stop.Stop.TheVariants as stops
+use Rattle.pdn.proofs.Counts.{answer_cut, sites_alone}
+use Rattle.pdn.proofs.Walks.{appends_nothing}
 use Rattle.pdn.proofs.run.answer.Goals as goal
 
-pub returns-in_default-count : goal.returns-in_default-count
-returns-in_default-count g c = stops _ _ (codes "t") [] _ (bad_a c.in-Some.number _ _ _ (sym c.read_query.ensures ∙ c.in-Some.is) (sym c.in_default-count.is ∙ c.count.ensures.counted)) c.refused_rows.ensures
+pub returns-in_err-text-clause-stops : goal.returns-in_err-text-clause-stops
+returns-in_err-text-clause-stops g c =
+    let p = err_from_is_err_and c.from_residual.result c.from_residual.ensures.1 in
+    rw (p.1, p.2) (
+      [],
+      appends_nothing _,
+      sites_alone (g.K.SiteKeeper.faults c.args.site_a.now) (g.K.SiteKeeper.faults c.args.site_b.now) (g.K.SiteKeeper.faults c.count_answer.new.site_a) (g.K.SiteKeeper.faults c.count_answer.new.site_b)
+          (g.S.Sink.faults c.args.out.now) (g.S.Sink.faults c.args.out.now) (g.K.SiteKeeper.batches c.args.site_a.now) (g.K.SiteKeeper.batches c.args.site_b.now) c.args.schema.now c.args.ticket c.args.query.now
+          [] c.in_err-text.field-0.0 c.in_err-text.ensures.stops,
+    )
 
-pub returns-in_default-count-2 : goal.returns-in_default-count-2
-returns-in_default-count-2 g c = stops _ _ (codes "t") [] _
-    (bad_b c.in-Some.number c.in-Some-count.in_a _ _ _ (sym c.read_query.ensures ∙ c.in-Some.is) (sym c.in-Some-count.is ∙ c.count.ensures.counted)
-    (sym c.in_default-count-2.is ∙ c.count-2.ensures.counted))
-    c.refused_rows-in_default-count-2.ensures
-
-pub returns : goal.returns
-returns g c = counted c.in-Some.number c.in-Some-count.in_a c.in-Some-count-2.in_b _ _ _ _ (sym c.read_query.ensures ∙ c.in-Some.is)
-    (sym c.in-Some-count.is ∙ c.count.ensures.counted) (sym c.in-Some-count-2.is ∙ c.count-2.ensures.counted) (c.in_ok-answer_text.ensures ∙ ap answer_text c.in_ok-total.ensures)
+pub returns-clause-stops : goal.returns-clause-stops
+returns-clause-stops g c =
+    let before : Counts = counts 0 (g.K.SiteKeeper.faults c.args.site_a.now) (g.K.SiteKeeper.faults c.args.site_b.now) (g.S.Sink.faults c.args.out.now) in
+    let now : Counts = counts 0 (g.K.SiteKeeper.faults c.count_answer.new.site_a) (g.K.SiteKeeper.faults c.count_answer.new.site_b) (g.S.Sink.faults c.put.new.self) in (
+      _,
+      c.in-Err-Failed.ensures.failed.1,
+      answer_cut (RoseIn before now) (g.K.SiteKeeper.batches c.args.site_a.now) (g.K.SiteKeeper.batches c.args.site_b.now) c.args.schema.now c.args.ticket c.args.query.now c.as_bytes.result.now
+          c.in-Err-Failed.ensures.failed.0 stops.Sink refl (c.put.ensures.cause.failed (search rules)) (rw (← c.as_bytes.ensures.value) at c.in_ok-text.ensures.answer),
+    )
