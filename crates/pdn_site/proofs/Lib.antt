@@ -1,5 +1,8 @@
 pub mod CompiledParts
+pub mod CompiledSlices
 pub mod NetLaws
+pub mod TakesLaws
+pub mod RootTakes
 pub mod QueryLaws
 pub mod TopLaws
 pub mod SegmentUnits
@@ -33,7 +36,12 @@ pub mod Quiet
 pub mod BuiltLaws
 pub mod OperatingLaws
 pub mod TreeLaws
+pub mod TreeListLaws
+pub mod RootingLaws
 pub mod RootWordLaws
 pub mod UnitWordLaws
 pub mod Standing
 pub mod Sizes
+pub mod HoldingLaws
+pub mod CompilingLaws
+pub mod BudgetLaws

@@ -11,10 +11,10 @@ use Rattle.pdn_circuit.specs.Building.{Made, Makes, Stops}
 use Rattle.pdn_obl_rows.specs.Lists.{PaddedList, IsShaped}
 use Rattle.pdn_schema.specs.Models.{SchemaModel}
 use Rattle.pdn_base.specs.declared.value.Value.{Value}
-use Rattle.pdn_plan.specs.declared.node.Node.{Node}
+use Rattle.pdn_plan.specs.declared.node.Node.{Node, fold-Node}
 use Rattle.pdn_level.specs.declared.staged.Leaf.{Leaf}
 use Rattle.pdn_site.specs.Laying.{Taken, Laying}
-use Rattle.pdn_site.specs.Circuits.{Laid, laid_leaf, laid_step}
+use Rattle.pdn_site.specs.Circuits.{Part, Laid, laid_leaf, laid_step, Rooted, root_step}
 use Rattle.pdn_site.specs.Through.{through}
 
 -- so many gates of one kind, numbered from `from` on; gives the first
@@ -39,3 +39,17 @@ pub record IsListOf (columns : List Kind) (rows : ℕ) (list : PaddedList) : Typ
 -- what is laid of a tree in a secure unit of this value, along leaves
 abbrev pub laid_through : SchemaModel → Value → Node → List Leaf → Laid
 laid_through schema v n leaves = (through (laid_leaf schema) (laid_step v) n).at leaves
+
+-- a list of the root, and the number of the segment that comes next after it
+pub record Rooting : Type 0 where
+  pub list : PaddedList
+  pub segments : ℕ
+
+-- The call laid this list, where segment i came next, or stopped, when a part of its gates may stand.
+abbrev pub LaysFrom : Made → Made → ℕ → Laying PaddedList → Result Rooting BuildErr → Type 0
+LaysFrom old new i laying result =
+    MatchResult result (λ found. Makes old new (laying (taken_by old.gates i) (length old.gates)) (found.list, taken_by new.gates found.segments)) (Stops old new (laying (taken_by old.gates i) (length old.gates)))
+
+-- what is laid of a tree in the root, where these are the units of each segment
+abbrev pub laid_root : SchemaModel → List (List Part) → Node → Laying PaddedList
+laid_root schema segments n = let top : Rooted = fold-Node Rooted (root_step schema segments) n in top.list

@@ -1,5 +1,5 @@
 -- The units of a query with their circuits, or the first limit that they pass.
-use Rattle.std.specs.Prelude.{ℕ, ◌+◌, ◌-◌, ◌*◌, max, nat_lt, Bool, true, false, cond, List, [], ◌∷◌, ◌++◌, map, length, get_or, Option, Some, None, Result, Ok, Err}
+use Rattle.std.specs.Prelude.{◌≡◌, ℕ, ◌+◌, ◌-◌, ◌*◌, max, nat_lt, Bool, true, false, cond, List, [], ◌∷◌, ◌++◌, map, length, get_or, Option, Some, None, Result, Ok, Err}
 use Rattle.std.specs.List.{sum_by, flat_map}
 use Rattle.pdn_base.specs.declared.value.Value.{Value}
 use Rattle.pdn_schema.specs.Models.{SchemaModel, table_of}
@@ -17,6 +17,8 @@ use Rattle.pdn_level.specs.Levels.{level_of_node}
 use Rattle.pdn_level.specs.Cutting.{slice_column, child_of}
 use Rattle.pdn_site.specs.declared.unit.UnitKind.{UnitKind}
 use Rattle.pdn_site.specs.declared.unit.UnitKind.TheVariants.{Plain, Secure, Root}
+use Rattle.pdn_site.specs.declared.unit.CompileErr.{CompileErr}
+use Rattle.pdn_site.specs.declared.unit.CompileErr.TheVariants as err
 use Rattle.pdn_site.specs.Models.{Dirs, UnitModel}
 use Rattle.pdn_site.specs.Directories.{unit_values, kind_of}
 use Rattle.pdn_site.specs.Laying.{Laying}
@@ -185,3 +187,8 @@ compiled_from u ands gates (shape ∷ shapes) =
 -- the units of a query, or the limit that is passed first, with the number of the unit
 abbrev pub compiled : SchemaModel → Node → List SegmentModel → List Dirs → Compiled
 compiled schema root segments dirs = compiled_from 0 4194304 16777216 (shapes_of schema root segments dirs)
+
+-- why there are no units: the limit that is passed first, and the number of the unit that passes it
+abbrev pub IsTooLarge : SchemaModel → Node → List SegmentModel → List Dirs → CompileErr → Type 0
+IsTooLarge schema root segments dirs (err.TooLarge limit unit) = compiled schema root segments dirs ≡ Err (limit, unit)
+IsTooLarge schema root segments dirs err.Memory = Unit {0}

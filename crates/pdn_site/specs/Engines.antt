@@ -1,5 +1,5 @@
 -- A site's engine as contracts see it, and which tables it refuses.
-use Rattle.std.specs.Prelude.{◌≡◌, ℕ, ◌<◌, List, [], length, get_or, None, unwrap_or}
+use Rattle.std.specs.Prelude.{◌≡◌, ℕ, ◌<◌, true, List, [], length, get_or, None, unwrap_or}
 use Rattle.pdn_base.specs.declared.site.Site.{Site}
 use Rattle.pdn_base.specs.declared.rows_err.RowsErr.{RowsErr}
 use Rattle.pdn_base.specs.declared.value.Value.{Value}
@@ -15,6 +15,7 @@ use Rattle.pdn_site.specs.declared.unit.UnitKind.TheVariants as kind
 use Rattle.pdn_site.specs.Models.{UnitModel}
 use Rattle.pdn_site.specs.Compiling.{node_at}
 use Rattle.pdn_site.specs.SiteRows.{plain_rows, unit_words}
+use Rattle.pdn_site.specs.Meaning.{AreTables, numbers_fit}
 use Rattle.pdn_site.specs.declared.engine.SiteErr.{SiteErr}
 use Rattle.pdn_site.specs.declared.engine.SiteErr.TheVariants as err
 
@@ -26,10 +27,11 @@ pub record EngineModel : Type 0 where
   pub staged : List SegmentModel
   pub tables : List Rows
 
--- every engine's tables are valid, and its segments are those of its tree
+-- every engine's tables are valid, its segments are those of its tree, and the numbers of tables and tree fit their types
 pub record IsEngine (engine : EngineModel) : Type 0 where
-  pub valid : AreValid engine.schema engine.tables
+  pub tables : AreTables engine.schema engine.tables
   pub staged : engine.staged ≡ segments_of engine.schema engine.root []
+  pub numbers : numbers_fit engine.root ≡ true
 
 abbrev pub no_segment : SegmentModel
 no_segment = record { path = []; leaves = [] }

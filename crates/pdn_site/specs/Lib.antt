@@ -16,3 +16,5 @@ pub mod Entering
 pub mod Engines
 pub mod Built
 pub mod RootWords
+pub mod Taking
+pub mod Budget

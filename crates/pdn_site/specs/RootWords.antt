@@ -1,5 +1,5 @@
 -- A site's words in the root and in any unit, by the units that are there.
-use Rattle.std.specs.Prelude.{◌≡◌, ℕ, nat_eq, Bool, false, cond, List, [], ◌∷◌, ◌++◌, map, length, Option, Some, None}
+use Rattle.std.specs.Prelude.{◌≡◌, ℕ, nat_eq, Bool, true, false, cond, List, [], ◌∷◌, ◌++◌, map, length, Option, Some, None, Ok}
 use Rattle.std.specs.List.{flat_map, range_with_len}
 use Rattle.pdn_base.specs.declared.site.Site.{Site}
 use Rattle.pdn_base.specs.Operators.{Rows}
@@ -12,6 +12,10 @@ use Rattle.pdn_site.specs.declared.unit.UnitKind.{UnitKind}
 use Rattle.pdn_site.specs.declared.unit.UnitKind.TheVariants.{Plain, Secure, Root}
 use Rattle.pdn_site.specs.Models.{UnitModel}
 use Rattle.pdn_site.specs.SiteRows.{Slice, slice_words, OwnRoot, RootRows, root_words_step, root_words}
+use Rattle.pdn_plan.specs.Shapes.{shape}
+use Rattle.pdn_site.specs.Compiling.{compiled}
+use Rattle.pdn_site.specs.Meaning.{numbers_fit}
+use Rattle.pdn_site.specs.NetMeaning.{slices_of, site_dirs}
 use Rattle.pdn_site.specs.Engines.{EngineModel, segment_number, value_of, secure_words}
 
 -- ---- the units of a segment
@@ -81,3 +85,10 @@ inputs_by Root engine units unit = root_inputs engine units
 
 abbrev pub unit_inputs : EngineModel → List UnitModel → UnitModel → List ℕ
 unit_inputs engine units unit = inputs_by unit.kind engine units unit
+
+-- ---- the units that are compiled
+
+-- The units that are compiled from both sites' directories, segment by segment, are those by which the root is meant.
+abbrev pub SlicesMean : Type 0
+SlicesMean = (schema : SchemaModel) (a b : List Rows) (root : Node) → (shape schema root).sound ≡ true → numbers_fit root ≡ true → (units : List UnitModel) →
+    compiled schema root (segments_of schema root []) (site_dirs a b (segments_of schema root [])) ≡ Ok units → slices_in (length (segments_of schema root [])) units ≡ slices_of schema a b root

@@ -4,7 +4,7 @@ ghost use Rattle.std.specs.List.{All};
 ghost use Rattle.pdn_base.specs.Operators.{Rows as RowsModel};
 ghost use Rattle.pdn_schema.specs.Rows.{AreValid};
 ghost use Rattle.pdn_level.specs.Levels.{segments_of};
-ghost use Rattle.pdn_site.specs.Engines.{IsNoEngine, IsFirstRefused, segment_of, no_unit, segment_number, value_of, IsOfSegment, slice_rows, secure_words};
+ghost use Rattle.pdn_site.specs.Engines.{IsEngine, IsNoEngine, IsFirstRefused, segment_of, no_unit, segment_number, value_of, IsOfSegment, slice_rows, secure_words};
 ghost use Rattle.pdn_site.specs.Directories.{directory};
 ghost use Rattle.pdn_site.specs.RootWords.{root_inputs, unit_inputs};
 ghost use Rattle.pdn_site.specs.declared.unit.UnitKind.TheVariants as kind;
@@ -12,7 +12,9 @@ ghost use Rattle.pdn_site.specs.declared.engine.SiteErr.TheVariants.{Memory};
 
 use crate::directories::directory;
 use crate::entering::entered_words;
+use crate::holding::tables_held;
 use crate::narrowing::{copy_tree, narrowed};
+use crate::numbers::numbers_held;
 use crate::root::tree_words;
 use crate::segments::node_at;
 use crate::unit::value_of;
@@ -110,11 +112,14 @@ impl SiteEngine {
         requires count { length tables ≡ length schema.now.tables }
         requires few { All (λ (rows : RowsModel). length rows < 2 ^ 32 - 1) tables }
         ensures made { IfOk result (λ engine. engine ≡ record { site = site; schema = schema.now; root = plan.now.root; staged = staged.now; tables = tables }) }
+        ensures is { IfOk result IsEngine }
         ensures refused { IfErr result (IsNoEngine schema.now tables) }
     {
         if let Some((table, cause)) = first_refused(schema, &tables) {
             return Err(SiteErr::Rows { table, cause });
         }
+        tables_held(alloc, schema, &tables)?;
+        numbers_held(&plan.root);
         let schema = schema.copy(alloc)?;
         let root = copy_tree(alloc, &plan.root)?;
         let staged = staged.copy(alloc)?;

@@ -166,7 +166,7 @@ fn leaf_words(
     entered(alloc, rows, kinds.as_slice(), first_per(schema, leaves))
 }
 
-fn is_local(node: &Node) -> bool
+pub(crate) fn is_local(node: &Node) -> bool
     ensures { result ≡ is_local node.now }
 {
     match node {

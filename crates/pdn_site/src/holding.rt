@@ -1,25 +1,71 @@
-//! Rows of kinds: that their numbers fit, by what the types of values keep.
-ghost use Rattle.std.specs.Prelude.{IfOk};
+//! Values, rows and tables such as circuits take: that their numbers fit, by what the types of values keep.
+ghost use Rattle.std.specs.Prelude.{◌≡◌, List, IfOk};
+ghost use Rattle.std.specs.List.{All};
+ghost use Rattle.pdn_base.specs.declared.value.Value.{Value as Cell};
+ghost use Rattle.pdn_schema.specs.Rows.{AreValid, kinds_of, value_kind};
 ghost use Rattle.pdn_obl_rows.specs.Encoding.{IsOf, RowIsOf, RowsAreOf};
+ghost use Rattle.pdn_site.specs.Meaning.{AreTables};
 
-use pdn_base::{Kind, Memory, Rows, Value};
+use pdn_base::{Kind, Memory, Rows, Tables, Value};
+use pdn_schema::Schema;
 use std::alloc::Global;
 
-/// A value of a kind is one as circuits take it. What the type of a number keeps is known once it is looked at, of a code
-/// once its text is read. A value of another kind, which valid tables give nowhere, is answered as memory that is wanting.
-fn value_held(alloc: Global, value: &Value, kind: Kind) -> Result<(), Memory>
-    ensures { IfOk result (λ _. IsOf kind value.now) }
+/// A value is one as circuits take those of its kind. What the type of a number keeps is known once it is looked at, of a
+/// code once its text is read.
+fn value_known(alloc: Global, value: &Value) -> Result<(), Memory>
+    ensures { IfOk result (λ _. IsOf (value_kind value.now) value.now) }
 {
-    match (value, kind) {
-        (Value::Int(n), Kind::Int) => {
+    match value {
+        Value::Int(n) => {
             let _number = *n;
             Ok(())
         }
-        (Value::Code(code), Kind::Code) => {
+        Value::Code(code) => {
             let _number = code.number();
             let _text = code.text(alloc)?;
             Ok(())
         }
+    }
+}
+
+fn row_known(alloc: Global, values: &[Value]) -> Result<(), Memory>
+    ensures { IfOk result (λ _. RowIsOf (kinds_of values.now) values.now) }
+{
+    match values.split_first() {
+        None => Ok(()),
+        Some((value, rest)) => {
+            value_known(alloc, value)?;
+            row_known(alloc, rest)
+        }
+    }
+}
+
+fn rows_known(alloc: Global, rows: &Rows) -> Result<(), Memory>
+    ensures { IfOk result (λ _. All (λ (row : List Cell). RowIsOf (kinds_of row) row) rows.now) }
+{
+    for row in rows.as_slice() {
+        row_known(alloc, row.values())?;
+    }
+    Ok(())
+}
+
+/// Valid tables are such as circuits take.
+#[tactic(auto, using(crate::proofs::HoldingLaws::tables_are))]
+pub(crate) fn tables_held(alloc: Global, schema: &Schema, tables: &Tables) -> Result<(), Memory>
+    requires { AreValid schema.now tables.now }
+    ensures { IfOk result (λ _. AreTables schema.now tables.now) }
+{
+    for rows in &tables.lists {
+        rows_known(alloc, rows)?;
+    }
+    Ok(())
+}
+
+fn value_held(alloc: Global, value: &Value, kind: Kind) -> Result<(), Memory>
+    ensures { IfOk result (λ _. IsOf kind value.now) }
+{
+    match (value, kind) {
+        (Value::Int(_), Kind::Int) | (Value::Code(_), Kind::Code) => value_known(alloc, value),
         _ => Err(Memory),
     }
 }
@@ -41,7 +87,8 @@ fn row_held(alloc: Global, values: &[Value], kinds: &[Kind]) -> Result<(), Memor
     row_held(alloc, values, kinds)
 }
 
-/// Rows whose values have these kinds are such rows as circuits take.
+/// Rows whose values have these kinds are such rows as circuits take. Rows of other kinds, which valid tables give nowhere,
+/// are answered as memory that is wanting.
 pub fn rows_held(alloc: Global, rows: &Rows, kinds: &[Kind]) -> Result<(), Memory>
     ensures { IfOk result (λ _. RowsAreOf kinds.now rows.now) }
 {

@@ -43,7 +43,7 @@ fn take_given(b: &mut Builder, count: usize) -> Result<u32, BuildErr>
 }
 
 /// The planes of columns of these kinds, where there are not too many to count.
-fn widths(kinds: &[Kind]) -> Option<usize>
+pub fn widths(kinds: &[Kind]) -> Option<usize>
     ensures { IfSome result (λ planes. planes ≡ widths kinds.now) }
 {
     match kinds.split_first() {
@@ -97,7 +97,7 @@ fn planes_from(
 }
 
 /// The list whose words are the gates from one on.
-fn list_from(
+pub fn list_from(
     alloc: Global,
     first: u32,
     kinds: &[Kind],
