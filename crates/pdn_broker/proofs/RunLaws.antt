@@ -12,12 +12,8 @@ use Rattle.pdn_gmw.specs.Steps.{HalfState, begun, half_words}
 use Rattle.pdn_gmw.specs.Pairs.{joined, Run, run_of}
 use Rattle.pdn_gmw.proofs.Outputs.{put_out_open}
 use Rattle.pdn_gmw.proofs.Meeting.{joined_again}
+pub use Rattle.pdn_broker.specs.Runs.{Shared}
 use Rattle.pdn_broker.specs.Runs.{Both, world, Takes, Ran}
-
--- each site has as many shares, and together they come to these words
-pub record Shared (a b words : List ℕ) : Type 0 where
-  pub same : length b ≡ length a
-  pub opens : xor_lists a b ≡ words
 
 length_by : (released : Bool) (shares masks : List ℕ) → (released ≡ true → length masks ≡ length shares) → length (cond released (xor_lists shares masks) shares) ≡ length shares
 length_by true shares masks h = length-xor_lists shares masks (h refl)

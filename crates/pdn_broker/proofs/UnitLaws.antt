@@ -39,7 +39,7 @@ abbrev or_none : Compiled → List UnitModel
 or_none (Ok units) = units
 or_none (Err e) = []
 
-abbrev made : Shape → UnitModel
+abbrev pub made : Shape → UnitModel
 made s = unit_of s (circuit_of s s.laid)
 
 within_ok : (b : Bool) (u : ℕ) (c : Compiled) (units : List UnitModel) → within b u c ≡ Ok units → (b ≡ false) × (c ≡ Ok units)
@@ -59,14 +59,14 @@ with_ok : (unit : UnitModel) (rest : Compiled) (units : List UnitModel) → with
 with_ok unit (Ok more) units e = record { more = more; rest_is = refl; units_are = sym (ap or_none e) }
 with_ok unit (Err passed) units e = absurd (true≢false (sym (ap is_ok e)))
 
-record Made (shapes : List Shape) (units : List UnitModel) : Type 0 where
-  are : units ≡ map made shapes
-  few : AllByRecursion (λ (s : Shape). s.longest ≤ 4096) shapes
+pub record Made (shapes : List Shape) (units : List UnitModel) : Type 0 where
+  pub are : units ≡ map made shapes
+  pub few : AllByRecursion (λ (s : Shape). s.longest ≤ 4096) shapes
 
 few_of : (n : ℕ) → nat_lt 4096 n ≡ false → n ≤ 4096
 few_of n e = ltb-false 4096 n e
 
-all_made : (u ands gates : ℕ) (shapes : List Shape) (units : List UnitModel) → compiled_from u ands gates shapes ≡ Ok units → Made shapes units
+pub all_made : (u ands gates : ℕ) (shapes : List Shape) (units : List UnitModel) → compiled_from u ands gates shapes ≡ Ok units → Made shapes units
 all_made u ands gates [] units e = record { are = sym (ap or_none e); few = tt }
 all_made u ands gates (s ∷ ss) units e =
     let made_gates : List Gate = gates_of (circuit_of s s.laid) in
@@ -92,7 +92,7 @@ all_back : {X : Type 0} (P : X → Type 0) (xs ys : List X) → AllByRecursion P
 all_back P [] ys h = h
 all_back P (x ∷ xs) ys h = all_back P xs ys h.1
 
-abbrev flat : List (List Shape) → List Shape
+abbrev pub flat : List (List Shape) → List Shape
 flat below = flat_map (λ shapes. shapes) below
 
 module _ (schema : SchemaModel) (a b : List Rows) (root : Node) where

@@ -1,3 +1,5 @@
 pub mod Runs
 pub mod Answering
 pub mod Units
+pub mod Prepared
+pub mod Running

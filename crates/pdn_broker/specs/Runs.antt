@@ -11,6 +11,11 @@ pub record Both : Type 0 where
   pub a : List ℕ
   pub b : List ℕ
 
+-- each site has as many shares, and together they come to these words
+pub record Shared (a b words : List ℕ) : Type 0 where
+  pub same : length b ≡ length a
+  pub opens : xor_lists a b ≡ words
+
 -- what the sites begin with: each its own words, and its shares of the given ones
 abbrev pub world : Both → Both → World
 world own given = record { inputs = record { a = own.a; b = own.b; given = xor_lists given.a given.b }; given_a = given.a }

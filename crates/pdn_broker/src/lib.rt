@@ -2,13 +2,21 @@
 #![tactic(auto)]
 
 mod answered;
+mod answering;
 mod laws;
 mod opening;
+mod prepared;
+mod preparing;
 mod shares;
+#[cfg(test)]
+mod tests;
 mod unit_run;
 
 pub use answered::{Answered, Dealt};
+pub use answering::answer;
 pub use laws::{answers_mean, compiled_units_tell};
 pub use opening::opened_rows;
+pub use prepared::Prepared;
+pub use preparing::{PrepareErr, prepare};
 pub use shares::Shares;
 pub use unit_run::run_unit;

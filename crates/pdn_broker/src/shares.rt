@@ -33,6 +33,16 @@ impl Shares {
         }
     }
 
+    /// Equal words.
+    pub fn copy(&self, alloc: Global) -> Result<Shares, Memory>
+        ensures { IfOk result (λ copied. copied ≡ self.now) }
+    {
+        Ok(Shares {
+            a: Vec::from_slice(alloc, self.a.as_slice())?,
+            b: Vec::from_slice(alloc, self.b.as_slice())?,
+        })
+    }
+
     /// The words of others, after these.
     pub fn append(&mut self, more: Shares) -> Result<(), Memory>
         ensures { OnOk result (self.new ≡ record { a = self.old.a ++ more.a; b = self.old.b ++ more.b }) }
