@@ -1,6 +1,6 @@
 -- The causes of a command's statuses, and what Done comes with.
-use Rattle.std.proofs.Common.{◌≡◌, ℕ, ◌+◌, ◌++◌, List, [], ◌∷◌, length, None, Some, Option, Result, Ok, Err, inl, inr, ◌⊎◌, refl, sym, subst, ap, ◌∙◌, append-nil, append_assoc}
-use Rattle.std.specs.Prelude.{codes}
+use Rattle.std.proofs.Common.{◌≡◌, ℕ, zero, suc, ◌+◌, ◌<◌, ◌++◌, List, [], ◌∷◌, length, take, get_or, arith, None, Some, Option, Result, Ok, Err, inl, inr, ◌⊎◌, refl, sym, subst, ap, ◌∙◌, append-nil, append_assoc}
+use Rattle.std.specs.Prelude.{Bool, true, false, codes}
 use Rattle.std.specs.List.{AllByRecursion}
 use Rattle.pdn_base.specs.declared.rows_err.RowsErr.{RowsErr}
 use Rattle.pdn_base.specs.declared.site.Site.{Site}
@@ -9,17 +9,21 @@ use Rattle.pdn_base.specs.declared.status.Status.{Status}
 use Rattle.pdn_base.specs.declared.status.Status.TheVariants as status
 use Rattle.pdn_base.specs.declared.status.Who.{Who}
 use Rattle.pdn_base.specs.declared.value.Value.{Value}
-use Rattle.pdn_schema.specs.Models.{SchemaModel, TableModel, table_of}
-use Rattle.pdn_schema.specs.Rows.{IsValid}
+use Rattle.pdn_schema.specs.Models.{SchemaModel, TableModel, table_of, no_table}
+use Rattle.pdn_schema.specs.Rows.{IsValid, IsRefused, union}
 use Rattle.pdn_sql.specs.declared.query.Query.{Query}
-use Rattle.pdn.specs.declared.plan.Count.{Count}
+use Rattle.pdn_base.specs.Operators.{Rows}
+use Rattle.pdn_plan.specs.Answer.{answer}
 use Rattle.pdn_plan.specs.Plans.{PlanModel}
+use Rattle.pdn_plan.specs.declared.node.Node.{Node}
+use Rattle.pdn_site.specs.Models.{UnitModel}
+use Rattle.pdn_site.specs.Compiling.{Compiled}
 use Rattle.pdn_schema.specs.Printing.{text_of}
 use Rattle.pdn.specs.Checking.{reporting, query_report, AreReported}
-use Rattle.pdn.specs.Causes.{AskedRun, AskedQueries, AskedCheck, AskedReports, AskedLoad, AskedTable, IsTaken, IsReached, Cause, IsCounted, IsLoaded, IsDone, file_of}
+use Rattle.pdn.specs.Causes.{AskedRun, AskedQueries, AskedCheck, AskedReports, AskedLoad, AskedTable, IsReached, IsAsked, IsFirstWrong, AreWrong, Cause, IsLoaded, IsDone, file_of}
 use Rattle.pdn.specs.Commands.{Task, Run, Check, Load, task_of, task_script, script}
-use Rattle.pdn.specs.Counting.{plan_of, count_script, queries_script, or_wrong, with_rows, answer_text, counted, IsAnswer, AreAnswers}
-use Rattle.pdn.specs.Questions.{Told, Unbound, Broken, Hidden, IsBound, Holds, Keeps, Valid, IsWrong, IsSchemaIn, AreQueriesIn, AreRowsIn, Answer, New, Again, Differs, OverRows, OverPer, Batch, Gives, after}
+use Rattle.pdn.specs.Answering.{scans, asking_if, asking, or_wrong, judging, units_over, or_large, answer_text, said, planned_script, queries_script, KeepsIf, KeepsAll, AllValid, IsTaken, IsAnswer, AreAnswers}
+use Rattle.pdn.specs.Questions.{Told, Unbound, Broken, Hidden, IsBound, Holds, Valid, IsWrong, kept_at, IsSchemaIn, AreQueriesIn, AreRowsIn, Answer, New, Again, Differs, OverRows, OverPer, Batch, Gives, after}
 use Rattle.pdn.specs.Script.{Script, Finish, Refuse, Say, Ask, found, with_inputs, or_fault, or_unbound, answered, load_table, table_number}
 use Rattle.pdn.specs.Stops.{Inputs}
 use Rattle.pdn.specs.Walk.{Refusals, Texts, Follows}
@@ -45,15 +49,49 @@ module _ (told : Told) (P : Status → Type 0) where
       λ read is. in_read status.Schema (λ s. next s text) (IsSchemaIn net) read is (faults net text held_net held_text)
       (λ s says. more s text (record { net = net; net_held = held_net; text_held = held_text; says = says }))))
 
+-- ---- the rows of a query's tables
+module _ (told : Told) (P : Status → Type 0) where
+  in_asked_if : (site : Site) (b : Bool) (t : TableModel) (next : Rows → Script) → ((rows : Rows) → KeepsIf b (kept_at told site) t.name rows → Refusals told P (next rows)) → Refusals told P (asking_if b site t next)
+  in_asked_if site true t next more = more
+  in_asked_if site false t next more = more [] refl
+
+  in_asked : (site : Site) (root : Node) (at : ℕ) (ts : List TableModel) (next : List Rows → Script) → ((tables : List Rows) → KeepsAll (kept_at told site) root at ts tables → Refusals told P (next tables)) →
+      Refusals told P (asking site root at ts next)
+  in_asked site root at [] next more = more [] refl
+  in_asked site root at (t ∷ ts) next more = in_asked_if site (scans at root) t _ (λ rows h. in_asked site root (at + 1) ts (λ later. next (rows ∷ later)) (λ later hs. more (rows ∷ later) (h, hs)))
+
+  -- what holds where this is the first table whose rows are wrong, the k-th of these
+  abbrev WrongAfter : Site → ℕ → List TableModel → List Rows → Type 0
+  WrongAfter site at ts tables = (k place : ℕ) (wrong : RowsErr) → place ≡ at + k → AllValid (take k ts) tables → k < length ts → IsRefused (get_or ts k no_table) (get_or tables k []) wrong → P (status.BadRows site place wrong)
+
+  in_wrong : (site : Site) (at : ℕ) (t : TableModel) (rows : Rows) (next : Script) (wrong : Option RowsErr) → IsWrong t rows wrong → ((e : RowsErr) → IsRefused t rows e → P (status.BadRows site at e)) →
+      (IsValid t rows → Refusals told P next) → Refusals told P (or_wrong site at t next wrong)
+  in_wrong site at t rows next None valid faults more = more valid
+  in_wrong site at t rows next (Some e) is faults more = faults e is
+
+  in_judged : (site : Site) (at : ℕ) (ts : List TableModel) (tables : List Rows) (next : Script) → WrongAfter site at ts tables → (AllValid ts tables → Refusals told P next) → Refusals told P (judging site at ts tables next)
+  in_judged site at [] tables next faults more = more tt
+  in_judged site at (t ∷ ts) [] next faults more = more tt
+  in_judged site at (t ∷ ts) (rows ∷ tables) next faults more = λ wrong is. in_wrong site at t rows _ wrong is (λ e refused. faults 0 at e (omega arith) tt (omega arith) refused)
+      (λ valid. in_judged site (at + 1) ts tables next (λ k place e same before l refused. faults (suc k) place e (omega (arith, same)) (valid, before) (omega (arith, l)) refused) (λ later. more (valid, later)))
+
+  in_large : (next : Script) (compiled : Compiled) → ((limit unit : ℕ) → compiled ≡ Err (limit, unit) → P (status.TooLarge limit unit)) → ((units : List UnitModel) → compiled ≡ Ok units → Refusals told P next) →
+      Refusals told P (or_large next compiled)
+  in_large next (Ok units) faults more = more units refl
+  in_large next (Err passed) faults more = faults passed.0 passed.1 refl
+
+from_first : (k place : ℕ) → place ≡ 0 + k → k ≡ place
+from_first k place e = omega (arith, e)
+
 refusals_map : (P Q : Status → Type 0) → ((refused : Status) → P refused → Q refused) → (told : Told) (script : Script) → Refusals told P script → Refusals told Q script
 refusals_map P Q f told Finish r = tt
 refusals_map P Q f told (Refuse refused line) r = f refused r
 refusals_map P Q f told (Say text rest) r = refusals_map P Q f told rest r
 refusals_map P Q f told (Ask question next) r = λ reply gives. refusals_map P Q f (after told question reply) (next reply) (r reply gives)
 
-all_more : (s : SchemaModel) (before : List Query) (query : Query) → AllByRecursion (IsTaken s) before → IsTaken s query → AllByRecursion (IsTaken s) (before ++ query ∷ [])
-all_more s [] query taken is = (is, tt)
-all_more s (q ∷ before) query taken is = (taken.0, all_more s before query taken.1 is)
+all_more : (P : Query → Type 0) (before : List Query) (query : Query) → AllByRecursion P before → P query → AllByRecursion P (before ++ query ∷ [])
+all_more P [] query taken is = (is, tt)
+all_more P (q ∷ before) query taken is = (taken.0, all_more P before query taken.1 is)
 
 -- why a refusal has a status: Done and Memory have none
 abbrev Refused : (Who → Type 0) → Told → List (List ℕ) → Status → Type 0
@@ -66,40 +104,32 @@ module _ (rose : Who → Type 0) (told : Told) (words : List (List ℕ)) where
   abbrev Caused : Script → Type 0
   Caused script = Refusals told (Refused rose told words) script
 
-  module _ (all : AskedQueries told words) (query : Query) (reached : IsReached all.run.s all.queries query) (taken : IsTaken all.run.s query) where
-    abbrev t : TableModel
-    t = table_of all.run.s taken.count.table
+  wrong_caused : (asked : IsAsked told words) (site : Site) (at : ℕ) (e : RowsErr) → AreWrong asked.all.run.s asked.a asked.b site at e → Refused rose told words (status.BadRows site at e)
+  wrong_caused asked site at e are = record { asked = asked; are = are }
 
-    wrong_b_caused : (a b : List (List Value)) (next : Script) → Keeps told.a t.name a → IsValid t a → Keeps told.b t.name b → Caused next → (wrong : Option RowsErr) → IsWrong t b wrong → Caused (or_wrong B taken.count.table t next wrong)
-    wrong_b_caused a b next ha va hb more None valid = more
-    wrong_b_caused a b next ha va hb more (Some wrong) is =
-        record { all = all; query = query; reached = reached; taken = taken; is_table = refl; are = (a, ha, va, b, hb, is) }
-
-    wrong_a_caused : (a b : List (List Value)) (next : Script) → Keeps told.a t.name a → Keeps told.b t.name b → Caused next → (wrong : Option RowsErr) → IsWrong t a wrong →
-        Caused (or_wrong A taken.count.table t (Ask (Valid t b) (or_wrong B taken.count.table t next)) wrong)
-    wrong_a_caused a b next ha hb more None valid = wrong_b_caused a b next ha valid hb more
-    wrong_a_caused a b next ha hb more (Some wrong) is =
-        record { all = all; query = query; reached = reached; taken = taken; is_table = refl; are = (a, ha, is) }
-
-  count_caused : (all : AskedQueries told words) (ticket : ℕ) (query : Query) (next : Script) → IsReached all.run.s all.queries query → (bound : PlanModel) → IsBound all.run.s query (Ok bound) →
-      (plan : Option Count) → plan_of all.run.s query ≡ plan → (IsTaken all.run.s query → Caused next) → Caused (count_script all.run.s ticket next plan)
-  count_caused all ticket query next reached bound binds None e more = inl (refl, refl, record { all = all; query = query; reached = reached; bound = bound; binds = binds; none = e })
-  count_caused all ticket query next reached bound binds (Some count) e more = let taken : IsTaken all.run.s query = record { bound = bound; binds = binds; count = count; plan = e } in
-      λ a ha b hb. wrong_a_caused all query reached taken a b _ ha hb (more taken)
+  planned_caused : (all : AskedQueries told words) (ticket : ℕ) (query : Query) (next : Script) → IsReached told all.run.s all.queries query → (plan : PlanModel) → IsBound all.run.s query (Ok plan) →
+      (IsTaken told.a told.b all.run.s query → Caused next) → Caused (planned_script all.run.s ticket query next plan)
+  planned_caused all ticket query next reached plan binds more =
+      in_asked told (Refused rose told words) A plan.root 0 all.run.s.tables _ (λ a ha. in_asked told (Refused rose told words) B plan.root 0 all.run.s.tables _ (λ b hb.
+      let asked : IsAsked told words = record { all = all; query = query; reached = reached; plan = plan; binds = binds; a = a; b = b; held_a = ha; held_b = hb } in
+      in_judged told (Refused rose told words) A 0 all.run.s.tables a _ (λ k place e same before l refused. wrong_caused asked A place e (subst (λ (n : ℕ). AreWrong all.run.s a b A n e) (from_first k place same) (record { before = before; within = l; here = refused }))) (λ va.
+      in_judged told (Refused rose told words) B 0 all.run.s.tables b _ (λ k place e same before l refused. wrong_caused asked B place e (subst (λ (n : ℕ). AreWrong all.run.s a b B n e) (from_first k place same) (va, record { before = before; within = l; here = refused }))) (λ vb.
+      in_large told (Refused rose told words) _ (units_over all.run.s plan.root a b) (λ limit unit passes. record { asked = asked; valid_a = va; valid_b = vb; passes = passes })
+      (λ units fits. more (record { plan = plan; binds = binds; a = a; b = b; held_a = ha; held_b = hb; valid_a = va; valid_b = vb; units = units; fits = fits }))))))
 
   -- a query's plan is asked for first
-  bound_caused : (all : AskedQueries told words) (query : Query) → IsReached all.run.s all.queries query → (next : PlanModel → Script) → ((bound : PlanModel) → IsBound all.run.s query (Ok bound) → Caused (next bound)) →
+  bound_caused : (all : AskedQueries told words) (query : Query) → IsReached told all.run.s all.queries query → (next : PlanModel → Script) → ((bound : PlanModel) → IsBound all.run.s query (Ok bound) → Caused (next bound)) →
       (reply : Result PlanModel Unbound) → IsBound all.run.s query reply → Caused (or_unbound next reply)
   bound_caused all query reached next more (Ok bound) binds = more bound binds
-  bound_caused all query reached next more (Err (Broken kind name)) is = inr (inl (inl (record { all = all; query = query; reached = reached; is = is })))
+  bound_caused all query reached next more (Err (Broken kind name)) is = inl (inl (record { all = all; query = query; reached = reached; is = is }))
   bound_caused all query reached next more (Err (Hidden column label)) is = inl (record { all = all; query = query; reached = reached; is = is })
 
   queries_caused : (all : AskedQueries told words) (ticket : ℕ) (before queries : List Query) → all.queries ≡ before ++ queries →
-      AllByRecursion (IsTaken all.run.s) before → Caused (queries_script all.run.s ticket queries)
+      AllByRecursion (IsTaken told.a told.b all.run.s) before → Caused (queries_script all.run.s ticket queries)
   queries_caused all ticket before [] e taken = tt
-  queries_caused all ticket before (query ∷ queries) e taken = let reached : IsReached all.run.s all.queries query = record { before = before; later = queries; stands = e; taken = taken } in
-      bound_caused all query reached _ (λ bound binds. count_caused all ticket query _ reached bound binds (plan_of all.run.s query) refl
-      (λ is. queries_caused all (ticket + 1) (before ++ query ∷ []) queries (e ∙ sym (append_assoc before (query ∷ []) queries)) (all_more all.run.s before query taken is)))
+  queries_caused all ticket before (query ∷ queries) e taken = let reached : IsReached told all.run.s all.queries query = record { before = before; later = queries; stands = e; taken = taken } in
+      bound_caused all query reached _ (λ plan binds. planned_caused all ticket query _ reached plan binds
+      (λ is. queries_caused all (ticket + 1) (before ++ query ∷ []) queries (e ∙ sym (append_assoc before (query ∷ []) queries)) (all_more (IsTaken told.a told.b all.run.s) before query taken is)))
 
   answered_caused : (table : AskedTable told words) (rows : List (List Value)) → AreRowsIn (table_of table.load.s table.at) table.load.csv (Ok rows) → (answer : Answer) →
       Gives told (Batch table.load.site (table_of table.load.s table.at) table.load.number rows) answer →
@@ -111,7 +141,7 @@ module _ (rose : Who → Type 0) (told : Told) (words : List (List ℕ)) where
   answered_caused table rows are (OverPer column) says = record { table = table; rows = rows; are = are; says = says }
 
   load_caused : (load : AskedLoad told words) (at : Option ℕ) → table_number load.table load.s ≡ at → Caused (load_table load.site load.table load.number load.s load.csv at)
-  load_caused load None e = inr (inr (refl, load, refl, e))
+  load_caused load None e = inr (refl, load, refl, e)
   load_caused load (Some at) e = let table : AskedTable told words = record { load = load; at = at; is = e } in λ read is. in_read told (Refused rose told words) status.Csv _ (AreRowsIn (table_of load.s at) load.csv) read is
       (λ entry cause are. (table, are)) (λ rows are answer says. answered_caused table rows are answer says)
 
@@ -121,7 +151,7 @@ module _ (rose : Who → Type 0) (told : Told) (words : List (List ℕ)) where
       (reply : Result PlanModel Unbound) → IsBound all.check.s query reply → Caused (or_unbound next reply)
   unreported all before query later stands bound next more (Ok plan) binds = more plan binds
   unreported all before query later stands bound next more (Err (Broken kind name)) is =
-      inr (inl (inr (record { all = all; before = before; query = query; later = later; stands = stands; bound = bound; is = is })))
+      inl (inr (record { all = all; before = before; query = query; later = later; stands = stands; bound = bound; is = is }))
   unreported all before query later stands bound next more (Err (Hidden column label)) is =
       inr (record { all = all; before = before; query = query; later = later; stands = stands; bound = bound; is = is })
 
@@ -201,17 +231,37 @@ module _ (told : Told) where
       λ x hx. text_found Q name _ x hx (λ text held_text.
       λ read is. text_read Q status.Schema (λ s. next s text) (IsSchemaIn net) read is (λ s says. more s text (record { net = net; net_held = held_net; text_held = held_text; says = says }))))
 
-  text_right : (Q : List ℕ → Told → Type 0) (site : Site) (at : ℕ) (t : TableModel) (rows : List (List Value)) (next : Script) (wrong : Option RowsErr) → IsWrong t rows wrong →
+  text_asked_if : (Q : List ℕ → Told → Type 0) (site : Site) (b : Bool) (t : TableModel) (next : Rows → Script) → ((rows : Rows) → KeepsIf b (kept_at told site) t.name rows → Texts told Q (next rows)) → Texts told Q (asking_if b site t next)
+  text_asked_if Q site true t next more = more
+  text_asked_if Q site false t next more = more [] refl
+
+  text_asked : (Q : List ℕ → Told → Type 0) (site : Site) (root : Node) (at : ℕ) (ts : List TableModel) (next : List Rows → Script) → ((tables : List Rows) → KeepsAll (kept_at told site) root at ts tables → Texts told Q (next tables)) →
+      Texts told Q (asking site root at ts next)
+  text_asked Q site root at [] next more = more [] refl
+  text_asked Q site root at (t ∷ ts) next more = text_asked_if Q site (scans at root) t _ (λ rows h. text_asked Q site root (at + 1) ts (λ later. next (rows ∷ later)) (λ later hs. more (rows ∷ later) (h, hs)))
+
+  text_right : (Q : List ℕ → Told → Type 0) (site : Site) (at : ℕ) (t : TableModel) (rows : Rows) (next : Script) (wrong : Option RowsErr) → IsWrong t rows wrong →
       (IsValid t rows → Texts told Q next) → Texts told Q (or_wrong site at t next wrong)
   text_right Q site at t rows next None valid more = more valid
   text_right Q site at t rows next (Some wrong) is more = tt
 
-  count_text : (Q : List ℕ → Told → Type 0) (s : SchemaModel) (ticket : ℕ) (query : Query) (next : Script) (bound : PlanModel) → IsBound s query (Ok bound) → (plan : Option Count) → plan_of s query ≡ plan →
-      ((text : List ℕ) → IsAnswer told.a told.b s ticket query text → Texts told (λ more now. Q (text ++ more) now) next) → Texts told Q (count_script s ticket next plan)
-  count_text Q s ticket query next bound binds None e more = tt
-  count_text Q s ticket query next bound binds (Some count) e more = let t : TableModel = table_of s count.table in λ a ha b hb wrong_a is_a. text_right Q A count.table t a _ wrong_a is_a (λ valid_a.
-      λ wrong_b is_b. text_right Q B count.table t b _ wrong_b is_b (λ valid_b.
-      more (answer_text (ticket + 1) ticket (counted count.number a b)) (record { bound = bound; binds = binds; count = count; plan = e; a = a; b = b; held_a = ha; held_b = hb; valid_a = valid_a; valid_b = valid_b; printed = refl })))
+  text_judged : (Q : List ℕ → Told → Type 0) (site : Site) (at : ℕ) (ts : List TableModel) (tables : List Rows) (next : Script) → (AllValid ts tables → Texts told Q next) → Texts told Q (judging site at ts tables next)
+  text_judged Q site at [] tables next more = more tt
+  text_judged Q site at (t ∷ ts) [] next more = more tt
+  text_judged Q site at (t ∷ ts) (rows ∷ tables) next more = λ wrong is. text_right Q site at t rows _ wrong is (λ valid. text_judged Q site (at + 1) ts tables next (λ later. more (valid, later)))
+
+  text_large : (Q : List ℕ → Told → Type 0) (next : Script) (compiled : Compiled) → ((units : List UnitModel) → compiled ≡ Ok units → Texts told Q next) → Texts told Q (or_large next compiled)
+  text_large Q next (Ok units) more = more units refl
+  text_large Q next (Err passed) more = tt
+
+  planned_text : (Q : List ℕ → Told → Type 0) (s : SchemaModel) (ticket : ℕ) (query : Query) (next : Script) (plan : PlanModel) → IsBound s query (Ok plan) →
+      ((text : List ℕ) → IsAnswer told.a told.b s ticket query text → Texts told (λ more now. Q (text ++ more) now) next) → Texts told Q (planned_script s ticket query next plan)
+  planned_text Q s ticket query next plan binds more = text_asked Q A plan.root 0 s.tables _ (λ a ha. text_asked Q B plan.root 0 s.tables _ (λ b hb.
+      text_judged Q A 0 s.tables a _ (λ va. text_judged Q B 0 s.tables b _ (λ vb. text_large Q _ (units_over s plan.root a b) (λ units fits.
+      more (answer_text (ticket + 1) ticket plan.columns (answer s (union a b) query)) (record {
+        taken = record { plan = plan; binds = binds; a = a; b = b; held_a = ha; held_b = hb; valid_a = va; valid_b = vb; units = units; fits = fits };
+        printed = refl;
+      }))))))
 
   bound_text : (Q : List ℕ → Told → Type 0) (s : SchemaModel) (query : Query) (next : PlanModel → Script) → ((bound : PlanModel) → IsBound s query (Ok bound) → Texts told Q (next bound)) →
       (reply : Result PlanModel Unbound) → IsBound s query reply → Texts told Q (or_unbound next reply)
@@ -222,7 +272,7 @@ module _ (told : Told) where
   queries_text : (Q : List ℕ → Told → Type 0) (s : SchemaModel) (ticket : ℕ) (queries : List Query) → ((text : List ℕ) → AreAnswers told.a told.b s ticket queries text → Q text told) →
       Texts told Q (queries_script s ticket queries)
   queries_text Q s ticket [] done = done [] refl
-  queries_text Q s ticket (query ∷ queries) done = bound_text Q s query _ (λ bound binds. count_text Q s ticket query _ bound binds (plan_of s query) refl (λ text is.
+  queries_text Q s ticket (query ∷ queries) done = bound_text Q s query _ (λ plan binds. planned_text Q s ticket query _ plan binds (λ text is.
       queries_text (λ more now. Q (text ++ more) now) s (ticket + 1) queries (λ more are. done (text ++ more) (text, more, refl, is, are))))
 
   reports_text : (Q : List ℕ → Told → Type 0) (s : SchemaModel) (number : ℕ) (queries : List Query) (next : List ℕ → Script) → ((text : List ℕ) → AreReported s number queries text → Texts told Q (next text)) →

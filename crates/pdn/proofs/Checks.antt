@@ -13,7 +13,7 @@ use Rattle.pdn.specs.Questions.{Told, QueriesIn, AreQueriesIn, IsBound}
 use Rattle.pdn.specs.Script.{Script, Finish, Say, Ask, or_fault}
 use Rattle.pdn.specs.Stops.{stop_of, Inputs, AreNoQueries, NoReport}
 use Rattle.pdn.specs.Walk.{Goes, End, Finished, NoMemory, PutFailed, Wrote}
-use Rattle.pdn.proofs.Counts.{bound_on, no_plan}
+use Rattle.pdn.proofs.Answers.{bound_on, no_plan}
 use Rattle.pdn.proofs.Walks.{inputs_on, refused_by, short_of}
 
 -- ---- one query more

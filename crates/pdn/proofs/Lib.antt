@@ -1,8 +1,8 @@
 pub mod Walks
 pub mod Ends
-pub mod Counts
+pub mod Answers
 pub mod Loads
 pub mod Checks
 pub mod Causes
-pub mod OneCountLaws
-pub mod SharedCounts
+pub mod Planes
+pub mod Ready

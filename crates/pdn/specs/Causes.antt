@@ -1,5 +1,5 @@
 -- When each status may be answered.
-use Rattle.std.specs.Prelude.{◌≡◌, ◌⊎◌, ℕ, List, [], ◌∷◌, ◌++◌, length, None, Some, Option, Result, Ok, Err, codes}
+use Rattle.std.specs.Prelude.{◌≡◌, ◌⊎◌, ◌<◌, ℕ, List, [], ◌∷◌, ◌++◌, length, take, get_or, None, Some, Option, Result, Ok, Err, codes}
 use Rattle.std.specs.List.{AllByRecursion}
 use Rattle.pdn_base.specs.declared.rows_err.RowsErr.{RowsErr}
 use Rattle.pdn_base.specs.declared.site.Site.{Site}
@@ -8,16 +8,16 @@ use Rattle.pdn_base.specs.declared.status.Status.{Status}
 use Rattle.pdn_base.specs.declared.status.Status.TheVariants as status
 use Rattle.pdn_base.specs.declared.status.Who.{Who}
 use Rattle.pdn_base.specs.declared.value.Value.{Value}
-use Rattle.pdn_schema.specs.Models.{SchemaModel, TableModel, table_of}
-use Rattle.pdn_schema.specs.Rows.{IsValid, IsRefused}
+use Rattle.pdn_base.specs.Operators.{Rows}
+use Rattle.pdn_schema.specs.Models.{SchemaModel, table_of}
+use Rattle.pdn_schema.specs.Rows.{IsRefused}
 use Rattle.pdn_sql.specs.declared.query.Query.{Query}
 use Rattle.pdn.specs.Commands.{Task, Run, Check, Load, task_of}
-use Rattle.pdn.specs.declared.plan.Count.{Count}
-use Rattle.pdn.specs.Counting.{plan_of, AreAnswers}
+use Rattle.pdn.specs.Answering.{IsTaken, AreAnswers, KeepsAll, AllValid, units_over}
 use Rattle.pdn.specs.Checking.{AreReported}
 use Rattle.pdn_schema.specs.Printing.{text_of}
 use Rattle.pdn_plan.specs.Plans.{PlanModel}
-use Rattle.pdn.specs.Questions.{Told, Unbound, Broken, Hidden, IsBound, Holds, Keeps, Answer, New, Again, Differs, OverRows, OverPer, Batch, Gives, kept_at, with_new, IsSchemaIn, AreQueriesIn, AreRowsIn}
+use Rattle.pdn.specs.Questions.{Told, Unbound, Broken, Hidden, IsBound, Holds, Answer, New, Again, Differs, OverRows, OverPer, Batch, Gives, kept_at, with_new, IsSchemaIn, AreQueriesIn, AreRowsIn}
 use Rattle.pdn.specs.Script.{table_number, loaded_text}
 use Rattle.pdn.specs.Stops.{Inputs}
 use Rattle.pdn_keeper.specs.Batches.{batch_held}
@@ -57,25 +57,18 @@ pub record AskedQueries (told : Told) (words : List (List ℕ)) : Type 0 where
   pub queries : List Query
   pub are : AreQueriesIn run.sql (Ok queries)
 
--- a query that has a plan and is of the one form
-pub record IsTaken (s : SchemaModel) (query : Query) : Type 0 where
-  pub bound : PlanModel
-  pub binds : IsBound s query (Ok bound)
-  pub count : Count
-  pub plan : plan_of s query ≡ Some count
-
 -- one of these queries, each before which is answered
-pub record IsReached (s : SchemaModel) (queries : List Query) (query : Query) : Type 0 where
+pub record IsReached (told : Told) (s : SchemaModel) (queries : List Query) (query : Query) : Type 0 where
   pub before : List Query
   pub later : List Query
   pub stands : queries ≡ before ++ query ∷ later
-  pub taken : AllByRecursion (IsTaken s) before
+  pub taken : AllByRecursion (IsTaken told.a told.b s) before
 
 -- a query is reached that has no plan, and this is why
 pub record IsUnbound (told : Told) (words : List (List ℕ)) (why : Unbound) : Type 0 where
   pub all : AskedQueries told words
   pub query : Query
-  pub reached : IsReached all.run.s all.queries query
+  pub reached : IsReached told all.run.s all.queries query
   pub is : IsBound all.run.s query (Err why)
 
 -- A check is asked for, its files are there, and the schema file says this schema.
@@ -106,28 +99,40 @@ pub record IsUnreported (told : Told) (words : List (List ℕ)) (why : Unbound) 
 abbrev pub CauseUnbound : Told → List (List ℕ) → Unbound → Type 0
 CauseUnbound told words why = IsUnbound told words why ⊎ IsUnreported told words why
 
--- a query is reached that has a plan but isn't of the one form
-pub record IsUnplanned (told : Told) (words : List (List ℕ)) : Type 0 where
+-- a query is reached that has a plan, and these rows of the tables that it scans are kept
+pub record IsAsked (told : Told) (words : List (List ℕ)) : Type 0 where
   pub all : AskedQueries told words
   pub query : Query
-  pub reached : IsReached all.run.s all.queries query
-  pub bound : PlanModel
-  pub binds : IsBound all.run.s query (Ok bound)
-  pub none : plan_of all.run.s query ≡ None
+  pub reached : IsReached told all.run.s all.queries query
+  pub plan : PlanModel
+  pub binds : IsBound all.run.s query (Ok plan)
+  pub a : List Rows
+  pub b : List Rows
+  pub held_a : KeepsAll told.a plan.root 0 all.run.s.tables a
+  pub held_b : KeepsAll told.b plan.root 0 all.run.s.tables b
 
--- the rows that a site handed over are refused, and those of A before are valid
-abbrev pub AreWrong : Told → TableModel → Site → RowsErr → Type 0
-AreWrong told t A wrong = (a : List (List Value)) × Keeps told.a t.name a × IsRefused t a wrong
-AreWrong told t B wrong = (a : List (List Value)) × Keeps told.a t.name a × IsValid t a × (b : List (List Value)) × Keeps told.b t.name b × IsRefused t b wrong
+-- the rows of this table are refused so, and those of the tables before it are valid
+pub record IsFirstWrong (s : SchemaModel) (tables : List Rows) (table : ℕ) (wrong : RowsErr) : Type 0 where
+  pub before : AllValid (take table s.tables) tables
+  pub within : table < length s.tables
+  pub here : IsRefused (table_of s table) (get_or tables table []) wrong
 
--- a query is reached whose table has wrong rows
+-- A's rows are refused so, or A's are valid and B's are refused so
+abbrev pub AreWrong : SchemaModel → List Rows → List Rows → Site → ℕ → RowsErr → Type 0
+AreWrong s a b A table wrong = IsFirstWrong s a table wrong
+AreWrong s a b B table wrong = AllValid s.tables a × IsFirstWrong s b table wrong
+
+-- a query is reached that scans wrong rows
 pub record HasWrongRows (told : Told) (words : List (List ℕ)) (site : Site) (table : ℕ) (wrong : RowsErr) : Type 0 where
-  pub all : AskedQueries told words
-  pub query : Query
-  pub reached : IsReached all.run.s all.queries query
-  pub taken : IsTaken all.run.s query
-  pub is_table : table ≡ taken.count.table
-  pub are : AreWrong told (table_of all.run.s table) site wrong
+  pub asked : IsAsked told words
+  pub are : AreWrong asked.all.run.s asked.a asked.b site table wrong
+
+-- a query is reached whose rows are valid, and of which this unit is the first that passes a limit
+pub record IsTooLarge (told : Told) (words : List (List ℕ)) (limit unit : ℕ) : Type 0 where
+  pub asked : IsAsked told words
+  pub valid_a : AllValid asked.all.run.s.tables asked.a
+  pub valid_b : AllValid asked.all.run.s.tables asked.b
+  pub passes : units_over asked.all.run.s asked.plan.root asked.a asked.b ≡ Err (limit, unit)
 
 -- A load is asked for, its files are there, and the schema file says this schema.
 pub record AskedLoad (told : Told) (words : List (List ℕ)) : Type 0 where
@@ -153,10 +158,9 @@ pub record IsAnswered (told : Told) (words : List (List ℕ)) (answer : Answer) 
   pub are : AreRowsIn (table_of table.load.s table.at) table.load.csv (Ok rows)
   pub says : Gives told (Batch table.load.site (table_of table.load.s table.at) table.load.number rows) answer
 
--- a run whose query isn't of the one form, a query that breaks a rule of binding, or a load of no table of the schema
+-- a query that breaks a rule of binding, or a load of no table of the schema
 abbrev pub CausePlan : Told → List (List ℕ) → ℕ → List ℕ → Type 0
-CausePlan told words kind name = ((kind ≡ 0) × (name ≡ []) × IsUnplanned told words)
-    ⊎ CauseUnbound told words (Broken kind name)
+CausePlan told words kind name = CauseUnbound told words (Broken kind name)
     ⊎ ((kind ≡ 1) × (load : AskedLoad told words) × (name ≡ load.table) × (table_number load.table load.s ≡ None))
 
 -- the SQL file of a run or of a check is refused so
@@ -176,6 +180,7 @@ Cause rose told words (status.Schema line cause) = IsSchemaFault told words line
 Cause rose told words (status.Sql place kind) = CauseSql told words place kind
 Cause rose told words (status.Plan kind name) = CausePlan told words kind name
 Cause rose told words (status.Forbidden column label) = CauseUnbound told words (Hidden column label)
+Cause rose told words (status.TooLarge limit unit) = IsTooLarge told words limit unit
 Cause rose told words (status.BadRows site table wrong) = HasWrongRows told words site table wrong
 Cause rose told words (status.Csv entry cause) = (table : AskedTable told words) × AreRowsIn (table_of table.load.s table.at) table.load.csv (Err (entry, cause))
 Cause rose told words (status.BatchDiffers row) = IsAnswered told words (Differs row)
@@ -187,7 +192,7 @@ Cause rose told words other = ⊥
 -- ---- what Done comes with
 
 -- the queries' answers, and the keepers as they were
-pub record IsCounted (told : Told) (words : List (List ℕ)) (text : List ℕ) (now : Told) : Type 0 where
+pub record IsRun (told : Told) (words : List (List ℕ)) (text : List ℕ) (now : Told) : Type 0 where
   pub all : AskedQueries told words
   pub answers : AreAnswers told.a told.b all.run.s 0 all.queries text
   pub kept : now ≡ told
@@ -212,7 +217,7 @@ pub record IsLoaded (told : Told) (words : List (List ℕ)) (text : List ℕ) (n
   pub are : AreRowsIn (table_of table.load.s table.at) table.load.csv (Ok rows)
   pub loaded : IsLoadedBy table rows text now
 
--- What is printed is the count of each query over both sites' rows, the schema with each query's report, or the line of the
+-- What is printed is the answer of each query over the union of both sites' rows, the schema with each query's report, or the line of the
 -- batch.
 abbrev pub IsDone : Told → List (List ℕ) → List ℕ → Told → Type 0
-IsDone told words text now = IsCounted told words text now ⊎ IsChecked told words text now ⊎ IsLoaded told words text now
+IsDone told words text now = IsRun told words text now ⊎ IsChecked told words text now ⊎ IsLoaded told words text now

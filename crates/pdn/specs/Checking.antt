@@ -11,7 +11,7 @@ use Rattle.pdn_plan.specs.declared.plan.OutColumn.{OutColumn}
 use Rattle.pdn_level.specs.Levels.{segments_of}
 use Rattle.pdn_level.specs.Models.{SegmentModel}
 use Rattle.pdn_level.specs.declared.staged.Leaf.{Leaf}
-use Rattle.pdn.specs.Counting.{query_name}
+use Rattle.pdn.specs.Answering.{query_name}
 use Rattle.pdn.specs.Questions.{IsBound}
 use Rattle.pdn.specs.Script.{Script, Finish, Say, binding, column_name}
 

@@ -10,7 +10,7 @@ use Rattle.pdn_base.specs.declared.site.Site.TheVariants.{A, B}
 use Rattle.pdn_base.specs.declared.status.Status.TheVariants as status
 use Rattle.pdn.specs.Questions.{QueriesIn}
 use Rattle.pdn.specs.Script.{Script, Ask, refuse, or_fault, with_inputs, load_script}
-use Rattle.pdn.specs.Counting.{queries_script}
+use Rattle.pdn.specs.Answering.{queries_script}
 use Rattle.pdn.specs.Checking.{report_script}
 use Rattle.pdn.specs.declared.command.Command.{Command}
 use Rattle.pdn.specs.declared.command.Command.TheVariants as command

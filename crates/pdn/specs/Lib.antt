@@ -1,9 +1,9 @@
 pub mod Questions
 pub mod Script
-pub mod Counting
+pub mod Answering
 pub mod Checking
 pub mod Commands
 pub mod Walk
 pub mod Stops
+pub mod Gathering
 pub mod Causes
-pub mod OneCount

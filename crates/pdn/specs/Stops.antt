@@ -22,7 +22,7 @@ use Rattle.pdn.specs.declared.stop.Stop.{Stop}
 use Rattle.pdn.specs.declared.stop.Stop.TheVariants as stop
 use Rattle.pdn.specs.Questions.{Holds, told_by, IsBound, Broken, Hidden, Answer, New, Again, Differs, OverRows, OverPer, Answers, AreQueriesIn, AreRowsIn}
 use Rattle.pdn.specs.Script.{Script, loaded_text, column_name}
-use Rattle.pdn.specs.Counting.{query_script, wrong_column}
+use Rattle.pdn.specs.Answering.{query_script, wrong_column}
 use Rattle.pdn.specs.Walk.{End, Finished, NoMemory, PutFailed, Refused, fault, Goes}
 
 abbrev pub stop_of : Stop → End
@@ -75,10 +75,6 @@ pub record WrongRows (site : Site) (at : ℕ) (t : TableModel) (rows : List (Lis
   pub wrong : RowsErr
   pub is : IsRefused t rows wrong
   pub refused : IsRefusal t.name (wrong_column t wrong) (status.BadRows site at wrong) stop
-
--- A's rows are refused, or A's are valid and B's are refused
-abbrev pub Misjudged : ℕ → TableModel → List (List Value) → List (List Value) → Stop → Type 0
-Misjudged at t a b stop = WrongRows A at t a stop ⊎ (IsValid t a × WrongRows B at t b stop) ⊎ (stop_of stop ≡ NoMemory)
 
 -- a query has a plan
 abbrev pub HasPlan : SchemaModel → Query → Type 0

@@ -1,5 +1,7 @@
 //! The plan of a query, or the refusal.
-ghost use Rattle.std.specs.Prelude.{Ok, MatchResult};
+ghost use Rattle.std.specs.Prelude.{◌≡◌, Ok, true, IfOk, MatchResult};
+ghost use Rattle.pdn_plan.specs.Answer.{IsWritten};
+ghost use Rattle.pdn_plan.specs.Shapes.{shape};
 ghost use Rattle.pdn.specs.Questions.{IsBound};
 ghost use Rattle.pdn.specs.Stops.{IsNoPlan};
 
@@ -13,7 +15,8 @@ use std::alloc::Global;
 /// The plan of a query, or the refusal: the first rule of binding that it breaks, else the first column of its answer that
 /// isn't public.
 pub fn bound(alloc: Global, schema: &Schema, query: &Query) -> Result<Plan, Stop>
-    ensures { MatchResult result (λ plan. IsBound schema.now query.now (Ok plan)) (IsNoPlan schema.now query.now) }
+    ensures is { MatchResult result (λ plan. IsBound schema.now query.now (Ok plan)) (IsNoPlan schema.now query.now) }
+    ensures sound { IsWritten query.now → IfOk result (λ plan. (shape schema.now plan.root).sound ≡ true) }
 {
     match bind(alloc, schema, query) {
         Ok(plan) => Ok(plan),

@@ -9,8 +9,8 @@ ghost use Rattle.pdn.specs.Questions.{told_by};
 ghost use Rattle.pdn.specs.Stops.{end_of, IsNoPlan, NoReport};
 ghost use Rattle.pdn.specs.Walk.{Goes, Wrote, RoseIn, counts};
 
+use crate::answer_text::query_name;
 use crate::bound::bound;
-use crate::count::query_name;
 use crate::inputs::{column_name, queries_of, read_inputs};
 use crate::stop::Stop;
 use pdn_base::{Files, Memory, Sink, SinkErr};

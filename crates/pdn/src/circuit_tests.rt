@@ -1,25 +1,9 @@
-//! The circuit of the count, and the blocks that no test below uses.
-use crate::one_count::one_count;
+//! Blocks of circuits that no test below uses.
 use pdn_base::{Site, Word};
 use pdn_circuit::{Builder, Circuit, Gate};
 use pdn_dealer::{Deal, ListDeal, Triple, section_len};
 use std::alloc::Global;
 use std::test::Fail;
-
-#[test]
-fn the_count_has_96_and_gates_33_outputs_and_515_words(rt: HostRuntime) -> Result<(), Fail> {
-    let circuit = one_count(rt.alloc())?;
-    let ands = circuit
-        .gates
-        .iter()
-        .filter(|gate| matches!(gate, Gate::And { .. }))
-        .count();
-    assert_eq!(rt; ands, 96);
-    assert_eq!(rt; circuit.outputs.len(), 33);
-    assert!(rt; circuit.released);
-    assert_eq!(rt; section_len(&circuit), 515);
-    Ok(())
-}
 
 #[test]
 fn equal_makes_two_gates_a_plane_and_plus_five(rt: HostRuntime) -> Result<(), Fail> {

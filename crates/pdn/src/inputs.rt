@@ -18,7 +18,7 @@ use pdn_sql::{Query, SqlErr, read_queries};
 use std::alloc::Global;
 
 /// How many queries a file may have.
-const MOST_QUERIES: u32 = 16;
+pub const MOST_QUERIES: u32 = 16;
 
 /// The schema, and what the other file holds.
 #[derive(Drop)]

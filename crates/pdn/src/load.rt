@@ -12,7 +12,7 @@ ghost use Rattle.pdn.specs.Stops.{end_of, IsRefusal, AreNoRows, Took, NotTook};
 ghost use Rattle.pdn.specs.Walk.{Goes, Wrote, RoseIn, counts_at, NoMemory};
 
 use crate::inputs::{column_name, read_inputs, table_number};
-use crate::stop::{Stop, refused, refused_at};
+use crate::stop::{Stop, refused, refused_at, who_of};
 use pdn_base::{Files, Memory, Name, Rows, Sink, SinkErr, Site, Status, Who};
 use pdn_keeper::{AddErr, Added, CsvErr, SiteKeeper, import_csv};
 use pdn_schema::{Schema, Table};
@@ -133,15 +133,6 @@ fn over_per(alloc: Global, table: &Table, column: u32) -> Stop
         column: Some(column),
     };
     refused_at(alloc, status, table.name.as_str(), name.as_str())
-}
-
-fn who_of(site: Site) -> Who
-    ensures { result ≡ who_of site }
-{
-    match site {
-        Site::A => Who::SiteA,
-        Site::B => Who::SiteB,
-    }
 }
 
 fn loaded_text(

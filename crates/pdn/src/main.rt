@@ -1,20 +1,21 @@
 //! The program of a private data network of two sites.
 #![tactic(auto)]
 
+mod answer;
+mod answer_text;
 mod bound;
 mod check;
 #[cfg(test)]
 mod circuit_tests;
 mod command;
-mod count;
 mod imports;
 mod inputs;
 mod load;
-mod one_count;
-mod plan;
+#[cfg(test)]
+mod row_tests;
 mod run;
-mod shared_count;
 mod stop;
+mod tables;
 #[cfg(test)]
 mod tests;
 mod top;

@@ -1,17 +1,20 @@
 //! `run`: answers each query of a file over the rows of both sites.
 ghost use Rattle.std.specs.Prelude.{◌≡◌, ◌≤◌, ◌<◌, ◌^◌, ◌-◌, ℕ, List, Option, IfErr, OnOk};
 ghost use Rattle.pdn.specs.Commands.{run_script};
-ghost use Rattle.pdn.specs.Counting.{IsAnswer, queries_script};
+ghost use Rattle.std.specs.List.{AllByRecursion};
+ghost use Rattle.pdn_plan.specs.Answer.{IsWritten};
+ghost use Rattle.pdn.specs.Answering.{IsAnswer, queries_script};
 ghost use Rattle.pdn.specs.Questions.{told_by};
 ghost use Rattle.pdn.specs.Stops.{end_of, StopsQuery};
 ghost use Rattle.pdn.specs.Walk.{Goes, Wrote, RoseIn, counts};
 
-use crate::count::count_answer;
-use crate::inputs::{queries_of, read_inputs};
+use crate::answer::query_answer;
+use crate::inputs::{MOST_QUERIES, queries_of, read_inputs};
 use crate::stop::Stop;
 use pdn_base::{Files, Sink, SinkErr};
 use pdn_dealer::Deal;
 use pdn_keeper::SiteKeeper;
+use pdn_plan::texts_are_written;
 use pdn_schema::Schema;
 use pdn_sql::Query;
 use std::alloc::Global;
@@ -40,6 +43,7 @@ pub fn run<F: Files, K: SiteKeeper, S: Sink, D: Deal>(
 {
     let inputs = read_inputs(alloc, file, files)?;
     let queries = queries_of(alloc, &inputs.text)?;
+    texts_are_written(&inputs.text, MOST_QUERIES);
     answer_all(alloc, &inputs.schema, &queries, site_a, site_b, out, deal)
 }
 
@@ -53,6 +57,7 @@ fn answer_all<K: SiteKeeper, S: Sink, D: Deal>(
     out: &mut S,
     deal: &D,
 ) -> Result<(), Stop>
+    requires { AllByRecursion IsWritten queries.now }
     ensures goes { Wrote (S.written out.old) (S.written out.new) (λ text. (files : Option (List ℕ → Option (List ℕ))) →
         Goes (RoseIn (counts 0 (K.faults site_a.old) (K.faults site_b.old) (S.faults out.old)) (counts 0 (K.faults site_a.new) (K.faults site_b.new) (S.faults out.new)))
         (told_by files (K.batches site_a.old) (K.batches site_b.old)) (queries_script schema.now 0 queries.now) text (end_of result)
@@ -80,7 +85,8 @@ fn answer<K: SiteKeeper, S: Sink, D: Deal>(
     out: &mut S,
     deal: &D,
 ) -> Result<(), Stop>
-    requires { ticket < 2 ^ 64 - 1 }
+    requires ticket { ticket < 2 ^ 64 - 1 }
+    requires written { IsWritten query.now }
     ensures answer { OnOk result (Wrote (S.written out.old) (S.written out.new) (IsAnswer (K.batches site_a.old) (K.batches site_b.old) schema.now ticket query.now)) }
     ensures stops { IfErr result (λ stop. Wrote (S.written out.old) (S.written out.new) (λ text.
         StopsQuery (RoseIn (counts 0 (K.faults site_a.old) (K.faults site_b.old) (S.faults out.old)) (counts 0 (K.faults site_a.new) (K.faults site_b.new) (S.faults out.new)))
@@ -91,8 +97,8 @@ fn answer<K: SiteKeeper, S: Sink, D: Deal>(
     ensures later_b { K.faults site_b.old ≤ K.faults site_b.new }
     ensures sink_later { S.faults out.old ≤ S.faults out.new }
 {
-    let text = count_answer(alloc, schema, ticket, query, site_a, site_b, deal)?;
-    match out.put(text.as_bytes()) {
+    let text = query_answer(alloc, schema, ticket, query, site_a, site_b, deal)?;
+    match out.put(&text) {
         Ok(()) => Ok(()),
         Err(SinkErr::Failed) => Err(Stop::Sink),
     }

@@ -1,10 +1,11 @@
 //! Why a command stops before its end.
 ghost use Rattle.std.specs.Prelude.{◌≡◌, []};
 ghost use Rattle.pdn.specs.declared.stop.Stop.TheVariants.{Memory};
+ghost use Rattle.pdn.specs.Questions.{who_of};
 ghost use Rattle.pdn.specs.Stops.{IsRefusal};
 
-use pdn_base::Status;
-use std::alloc::{AllocError, Global};
+use pdn_base::{Site, Status, Who};
+use std::alloc::{AllocError, AllocFailed, Global};
 
 /// Why a command stops before its end.
 #[derive(Drop)]
@@ -20,6 +21,14 @@ impl From<AllocError> for Stop {
     ghost from_gives = { λ _ e. e ≡ Memory };
 
     fn from(_: AllocError) -> Stop {
+        Stop::Memory
+    }
+}
+
+impl<T: Drop> From<AllocFailed<T>> for Stop {
+    ghost from_gives = { λ _ e. e ≡ Memory };
+
+    fn from(_: AllocFailed<T>) -> Stop {
         Stop::Memory
     }
 }
@@ -46,5 +55,15 @@ pub fn refused_at(alloc: Global, status: Status, table: &str, column: &str) -> S
     match status.line(alloc, table, column) {
         Ok(line) => Stop::Refused { status, line },
         Err(_) => Stop::Memory,
+    }
+}
+
+/// Which object a site is.
+pub fn who_of(site: Site) -> Who
+    ensures { result ≡ who_of site }
+{
+    match site {
+        Site::A => Who::SiteA,
+        Site::B => Who::SiteB,
     }
 }

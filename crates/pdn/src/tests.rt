@@ -10,13 +10,13 @@ use std::alloc::{AllocError, Global};
 use std::process::Abort;
 use std::test::Fail;
 
-const SMALL: &str = "version 1\nfloor 3\ntable t rows 8\ncolumn c int private\nend\n";
+pub(crate) const SMALL: &str = "version 1\nfloor 3\ntable t rows 8\ncolumn c int private\nend\n";
 
 const LARGE: &str =
     "version 1\nfloor 3\ntable diag rows 16\ncolumn pid int public per 4\ncolumn code code protected\ncolumn day int private\ntable t rows 8\ncolumn c int private\nend\n";
 
 // Lines of a schema, as they are printed.
-const HOSPITALS: &str =
+pub(crate) const HOSPITALS: &str =
     "version 1\nfloor 3\ncaller ann calls 2\ntable t rows 8\ncolumn c int private\ntable diag rows 16\ncolumn pid int public per 4\ncolumn code code protected\ncolumn day int private\ntable med rows 16\ncolumn pid int public per 4\ncolumn drug code protected\ncolumn day int private\ntable wide rows 256\ncolumn y int public per 64\ncolumn x int private\nend\n";
 
 const SQL: &str = "SELECT COUNT(*) FROM t WHERE c = 5;\n";
@@ -64,7 +64,7 @@ fn file(alloc: Global, name: &str, text: &str) -> Result<(String, Vec<u8>), Allo
     ))
 }
 
-fn named(
+pub(crate) fn named(
     rt: &impl Abort,
     alloc: Global,
     texts: &[(&str, &str)],
@@ -87,7 +87,7 @@ fn numbers(alloc: Global, number: u64) -> Result<Vec<u64>, Fail> {
     Ok(numbers)
 }
 
-fn words_of(alloc: Global, words: &[&str]) -> Result<Vec<String>, Fail> {
+pub(crate) fn words_of(alloc: Global, words: &[&str]) -> Result<Vec<String>, Fail> {
     let mut command = Vec::new(alloc);
     for word in words {
         command.push(String::from_str(alloc, word)?)?;
@@ -191,7 +191,8 @@ fn counts_the_rows_of_both_sites(rt: HostRuntime) -> Result<(), Fail> {
 fn answers_each_query_of_a_file_up_to_the_first_refusal(rt: HostRuntime) -> Result<(), Fail> {
     let one = "query 1 ticket 0 rows 1\ncount\n2\n";
     let two = "query 1 ticket 0 rows 1\ncount\n2\nquery 2 ticket 1 rows 1\ncount\n1\n";
-    let refused = "query 1 ticket 0 rows 1\ncount\n2\nrefused 5 kind 0\n";
+    let rows = "query 1 ticket 0 rows 1\ncount\n2\nquery 2 ticket 1 rows 1\ncount\n3\n";
+    let rows_first = "query 1 ticket 0 rows 1\ncount\n3\nquery 2 ticket 1 rows 1\ncount\n2\n";
     let forbidden = "query 1 ticket 0 rows 1\ncount\n2\nrefused 6 diag.code protected\n";
     let five = "SELECT COUNT(*) FROM t WHERE c = 5;";
     let seven = "SELECT COUNT(*) FROM t WHERE (c = 7);";
@@ -200,8 +201,8 @@ fn answers_each_query_of_a_file_up_to_the_first_refusal(rt: HostRuntime) -> Resu
     for (first, second, says, ends) in [
         (five, "", one, 0),
         (five, seven, two, 0),
-        (five, all, refused, 5),
-        (all, five, "refused 5 kind 0\n", 5),
+        (five, all, rows, 0),
+        (all, five, rows_first, 0),
         (five, code, forbidden, 6),
         (code, five, "refused 6 diag.code protected\n", 6),
     ] {
@@ -342,27 +343,32 @@ fn refuses_what_the_files_hold(rt: HostRuntime) -> Result<(), Fail> {
         ),
         (SMALL, "", "refused 4 place 0 kind 8\n", 4),
         (other, SQL, "refused 5 kind 1 t\n", 5),
-        (few, SQL, "refused 5 kind 0\n", 5),
-        (shown, SQL, "refused 5 kind 0\n", 5),
+        (few, SQL, "query 1 ticket 0 rows 1\ncount\n0\n", 0),
+        (shown, SQL, "query 1 ticket 0 rows 1\ncount\n0\n", 0),
         (
             SMALL,
             "SELECT COUNT(*) FROM t WHERE c = 5 LIMIT 1;",
-            "refused 5 kind 0\n",
-            5,
+            "query 1 ticket 0 rows 1\ncount\n0\n",
+            0,
         ),
         (
             SMALL,
             "SELECT COUNT(*) AS n FROM t WHERE c = 5;",
-            "refused 5 kind 0\n",
-            5,
+            "query 1 ticket 0 rows 1\nn\n0\n",
+            0,
         ),
         (
             SMALL,
             "SELECT COUNT(*) FROM t WHERE c >= 5;",
-            "refused 5 kind 0\n",
-            5,
+            "query 1 ticket 0 rows 1\ncount\n0\n",
+            0,
         ),
-        (SMALL, "SELECT COUNT(*) FROM t;", "refused 5 kind 0\n", 5),
+        (
+            SMALL,
+            "SELECT COUNT(*) FROM t;",
+            "query 1 ticket 0 rows 1\ncount\n0\n",
+            0,
+        ),
         (
             LARGE,
             "SELECT pid FROM diag ORDER BY day;",

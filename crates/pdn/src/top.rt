@@ -35,7 +35,7 @@ pub fn pdn<F: Files, K: SiteKeeper, S: Sink, D: Deal>(
     ensures answers { let rose = RoseIn (counts (F.faults files.old) (K.faults site_a.old) (K.faults site_b.old) (S.faults out.old)) (counts (F.faults files.new) (K.faults site_a.new) (K.faults site_b.new) (S.faults out.new)) in
         Wrote (S.written out.old) (S.written out.new) (λ text. Follows rose (told_by (F.held files.old) (K.batches site_a.old) (K.batches site_b.old)) (script (map string_bytes words.now)) text result (told_by (F.held files.new) (K.batches site_a.new) (K.batches site_b.new))) }
 
-    // Done comes only with the count of each query over the rows of both sites, the schema with the report of each query, or
+    // Done comes only with the answer of each query over the rows of both sites, the schema with the report of each query, or
     // the line of the batch that is then kept.
     ensures counted { result ≡ Status.Done → Wrote (S.written out.old) (S.written out.new) (λ text. IsDone (told_by (F.held files.old) (K.batches site_a.old) (K.batches site_b.old)) (map string_bytes words.now) text (told_by (F.held files.new) (K.batches site_a.new) (K.batches site_b.new))) }
 

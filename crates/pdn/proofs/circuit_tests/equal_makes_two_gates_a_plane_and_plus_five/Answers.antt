@@ -1,5 +1,5 @@
 use Rattle.std.proofs.Common.{refl, arith}
-use Rattle.pdn.proofs.OneCountLaws.{zeros_there}
+use Rattle.pdn.proofs.Planes.{zeros_there}
 use Rattle.pdn.proofs.circuit_tests.equal_makes_two_gates_a_plane_and_plus_five.Goals as goal
 
 pub plus-requires-clause-there : goal.plus-requires-clause-there

@@ -1,7 +1,7 @@
 use Rattle.std.proofs.Common.{arith, sym, refl, ◌∙◌}
 use Rattle.std.proofs.lemmas.Result.{err_from_is_err_and}
 use Rattle.pdn.specs.Walk.{Counts, counts}
-use Rattle.pdn.proofs.Counts.{Along-begin, Along-next, Along-stopped, Along-all}
+use Rattle.pdn.proofs.Answers.{Along-begin, Along-next, Along-stopped, Along-all}
 use Rattle.pdn.proofs.run.answer_all.Goals as goal
 
 pub loop-i-init : goal.loop-i-init

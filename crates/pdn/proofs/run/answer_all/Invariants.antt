@@ -1,7 +1,7 @@
 use Rattle.std.proofs.Common.{◌≡◌, ◌≤◌, drop}
-use Rattle.pdn.specs.Counting.{queries_script}
+use Rattle.pdn.specs.Answering.{queries_script}
 use Rattle.pdn.specs.Walk.{counts}
-use Rattle.pdn.proofs.Counts.{Along}
+use Rattle.pdn.proofs.Answers.{Along}
 use Rattle.pdn.proofs.run.answer_all.Given as goal
 
 abbrev pub invariant-loop-i : goal.invariant-loop-i

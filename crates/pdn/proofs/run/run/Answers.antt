@@ -2,7 +2,7 @@ use Rattle.std.proofs.Common.{[]}
 use Rattle.std.proofs.lemmas.Result.{err_from_is_err_and}
 use Rattle.pdn.specs.Questions.{Told, told_by}
 use Rattle.pdn.specs.Walk.{Counts, RoseIn, counts}
-use Rattle.pdn.proofs.Counts.{run_no_queries, run_queries, beside_files}
+use Rattle.pdn.proofs.Answers.{run_no_queries, run_queries, beside_files}
 use Rattle.pdn.proofs.Walks.{appends_nothing, missed_inputs}
 use Rattle.pdn.proofs.run.run.Goals as goal
 
@@ -30,5 +30,5 @@ returns-clause-goes g c =
       c.answer_all.ensures.goes.0,
       c.answer_all.ensures.goes.1,
       run_queries (RoseIn before now) told c.args.file.now _ _ c.in_ok-inputs.ensures.read _ _ _ (rw (c.deref.ensures.value) at c.in_ok-queries.ensures)
-          (beside_files _ _ _ _ _ _ _ _ told _ _ _ told (rw (c.deref-2.ensures.value) at (c.answer_all.ensures.goes.2 (g.F.Files.held c.args.files.now)))),
+          (beside_files _ _ _ _ _ _ _ _ told _ _ _ told (rw (c.deref-3.ensures.value) at (c.answer_all.ensures.goes.2 (g.F.Files.held c.args.files.now)))),
     )
