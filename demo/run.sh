@@ -1,7 +1,8 @@
 #!/usr/bin/env bash
 # Runs a command of the program on the demo network: its words are this script's, else `run q.sql 1`, which answers the
-# query of demo/q.sql over the rows of both sites, demo/a_t.csv and demo/b_t.csv, by the schema demo/net.schema. It runs the proved program where the gate (.ci/run) has built it from the sources as they stand, else a
-# quick build that is not proved. The key of the tape is made from the system's random source where there is none.
+# queries of demo/q.sql over the rows of two hospitals, demo/a_diag.csv and demo/b_diag.csv, by the schema demo/net.schema. It
+# runs the proved program where the gate (.ci/run) has built it from the sources as they stand, else a quick build that is not
+# proved. The key of the tape is made from the system's random source where there is none.
 set -u
 demo=$(cd "$(dirname "$0")" && pwd)
 crates=$(cd "$demo/../crates" && pwd)
@@ -24,7 +25,7 @@ fi
 echo "a quick build that is not proved (run .ci/run for the proved program):" >&2
 cd "$crates/pdn" || exit 1
 data=()
-for file in net.schema q.sql a_t.csv b_t.csv more.csv tape.key; do
+for file in net.schema q.sql a_diag.csv b_diag.csv more.csv tape.key; do
     data+=(--data "$file=$demo/$file")
 done
 exec rt try "${data[@]}" -- "$@"
