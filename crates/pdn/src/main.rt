@@ -5,19 +5,13 @@ mod answer;
 mod answer_text;
 mod bound;
 mod check;
-#[cfg(test)]
-mod circuit_tests;
 mod command;
 mod imports;
 mod inputs;
 mod load;
-#[cfg(test)]
-mod row_tests;
 mod run;
 mod stop;
 mod tables;
-#[cfg(test)]
-mod tests;
 mod top;
 
 use hex::FromHex;

@@ -16,8 +16,6 @@ mod order;
 mod real_files;
 mod refusal;
 mod row;
-#[cfg(test)]
-mod row_tests;
 mod rows_err;
 mod sink;
 mod site;
@@ -46,6 +44,3 @@ pub use status::{Status, Who};
 pub use std_sink::StdSink;
 pub use value::Value;
 pub use word::Word;
-
-#[cfg(test)]
-mod tests;

@@ -8,8 +8,6 @@ mod opening;
 mod prepared;
 mod preparing;
 mod shares;
-#[cfg(test)]
-mod tests;
 mod unit_run;
 
 pub use answered::{Answered, Dealt};

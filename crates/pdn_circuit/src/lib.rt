@@ -11,8 +11,6 @@ mod lay;
 mod run;
 mod sums;
 mod tally;
-#[cfg(test)]
-mod tests;
 
 pub use builder::{Builder, MOST_GATES};
 pub use circuit::{Circuit, Inputs};

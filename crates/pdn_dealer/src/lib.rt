@@ -12,6 +12,3 @@ pub use dealers::Deal;
 pub use list_deal::ListDeal;
 pub use parts::{Part, Triple};
 pub use sections::{Section, section_len, sections_are_laid_out};
-
-#[cfg(test)]
-mod tests;

@@ -18,6 +18,3 @@ pub use half::Half;
 pub use laws::{halves_meet, rounds_tell_the_same, small_run_comes_out};
 pub use run::{UnitRun, run_pair};
 pub use step::{FrameErr, Step};
-
-#[cfg(test)]
-mod tests;

@@ -15,6 +15,3 @@ pub use cause::CsvErr;
 pub use import::import_csv;
 pub use mem_site::MemSite;
 pub use site_keeper::{AddErr, Added, KeepErr, SiteKeeper};
-
-#[cfg(test)]
-mod tests;

@@ -6,8 +6,6 @@ mod links;
 mod slices;
 mod staged;
 mod staging;
-#[cfg(test)]
-mod tests;
 
 pub use laws::{root_fits, unions_are_wide, units_fit, units_fit_together};
 pub use staged::{Leaf, Level, Segment, Staged};

@@ -12,8 +12,6 @@ mod repeats;
 mod rows;
 mod single;
 mod slices;
-#[cfg(test)]
-mod tests;
 
 pub use counting::{bits, count, count_planes, no_count};
 pub use cutting::cut_distinct;

@@ -12,8 +12,6 @@ mod limiting;
 mod numbering;
 mod numbers;
 mod spreading;
-#[cfg(test)]
-mod tests;
 
 pub use laws::{ranks_mean, ranks_worked};
 pub use limiting::top;

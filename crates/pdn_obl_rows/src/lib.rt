@@ -11,8 +11,6 @@ mod laws;
 mod padded;
 mod projecting;
 mod shape;
-#[cfg(test)]
-mod tests;
 
 pub use appending::append;
 pub use conditions::{filled, word_planes};

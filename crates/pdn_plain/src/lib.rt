@@ -3,15 +3,9 @@
 
 mod groups;
 mod numbers;
-#[cfg(test)]
-mod operator_tests;
 mod products;
-#[cfg(test)]
-mod query_tests;
 mod running;
 mod selections;
-#[cfg(test)]
-mod tests;
 
 pub use groups::{count, distinct, group};
 pub use numbers::{number, top};

@@ -14,8 +14,6 @@ mod scope;
 mod sources;
 mod split;
 mod steps;
-#[cfg(test)]
-mod tests;
 mod tree;
 
 pub use binding::bind;

@@ -16,6 +16,3 @@ pub use print::print_schema;
 pub use read::{SchemaErr, read_schema};
 pub use schema::{Caller, Column, Schema, Table};
 pub use valid::{count_of, valid_rows};
-
-#[cfg(test)]
-mod tests;

@@ -20,12 +20,8 @@ mod root_lengths;
 mod rooting;
 mod segments;
 mod shaping;
-#[cfg(test)]
-mod tests;
 mod trees;
 mod unit;
-#[cfg(test)]
-mod unit_tests;
 mod view;
 
 pub use compiling::compile;

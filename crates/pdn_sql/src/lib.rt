@@ -28,6 +28,3 @@ pub use seen::Seen;
 pub use stop::Stop;
 pub use text::Text;
 pub use token::{Keyword, Placed, Symbol, Token};
-
-#[cfg(test)]
-mod tests;
