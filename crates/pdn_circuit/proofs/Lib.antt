@@ -1,5 +1,6 @@
 pub mod ValueLaws
 pub mod DepthLaws
+pub mod DepthMeaning
 pub mod CountLaws
 pub mod Reading
 pub mod PlainLaws

@@ -5,6 +5,7 @@ mod adding;
 mod builder;
 mod circuit;
 mod compare;
+mod depths;
 mod gate;
 mod laws;
 mod lay;
@@ -14,6 +15,7 @@ mod tally;
 
 pub use builder::{Builder, MOST_GATES};
 pub use circuit::{Circuit, Inputs};
+pub use depths::gate_depths;
 pub use gate::Gate;
 pub use laws::block_laws;
 pub use lay::Pick;
