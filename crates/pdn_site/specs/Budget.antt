@@ -7,7 +7,7 @@ use Rattle.pdn_circuit.specs.declared.tally.BuildErr.{BuildErr}
 use Rattle.pdn_circuit.specs.declared.tally.BuildErr.TheVariants as build
 use Rattle.pdn_circuit.specs.Gates.{Net}
 use Rattle.pdn_circuit.specs.Building.{Made, Starts, first_over, and_count}
-use Rattle.pdn_plan.specs.declared.node.Node.{Node}
+use Rattle.pdn_tree.specs.declared.node.Node.{Node}
 use Rattle.pdn_level.specs.declared.staged.Leaf.{Leaf}
 use Rattle.pdn_level.specs.Models.{SegmentModel}
 use Rattle.pdn_site.specs.declared.budget.Left.{Left}

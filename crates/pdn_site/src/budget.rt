@@ -16,8 +16,8 @@ use pdn_base::{Memory, Value};
 use pdn_circuit::{BuildErr, Builder, Circuit, Gate};
 use pdn_level::Leaf;
 use pdn_obl_rows::Padded;
-use pdn_plan::Node;
 use pdn_schema::Schema;
+use pdn_tree::Node;
 use std::alloc::Global;
 
 /// The most outputs of a circuit.

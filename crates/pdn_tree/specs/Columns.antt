@@ -5,7 +5,7 @@ use Rattle.pdn_base.specs.declared.cond.Term.{Term}
 use Rattle.pdn_base.specs.declared.cond.Operand.{Operand}
 use Rattle.pdn_base.specs.declared.cond.Operand.TheVariants as operand
 use Rattle.pdn_base.specs.declared.cond.Cmp.{Cmp}
-use Rattle.pdn_plan.specs.Meaning.{Rows}
+use Rattle.pdn_tree.specs.Meaning.{Rows}
 
 -- clauses of which each needs one true comparison
 abbrev pub Clauses : Type 0

@@ -2,7 +2,7 @@
 
 ghost use Rattle.std.specs.Prelude.{◌≡◌, ◌++◌, IfOk, ◌∷◌, [], map, take};
 ghost use Rattle.std.specs.List.{list_all};
-ghost use Rattle.pdn_plan.specs.Shapes.{labels, label_at, is_public, higher, highest, opened, reaches_floor, group_labels, count_label, table_columns, key_columns};
+ghost use Rattle.pdn_tree.specs.Shapes.{labels, label_at, is_public, higher, highest, opened, reaches_floor, group_labels, count_label, table_columns, key_columns};
 ghost use Rattle.pdn_base.specs.declared.marks.Label.TheVariants as label;
 
 use crate::Node;

@@ -2,11 +2,11 @@
 use Rattle.std.proofs.Common.{◌≡◌, ℕ, List, Option, ap, ◌∙◌, sym}
 use Rattle.pdn_base.specs.declared.order.Key.{Key}
 use Rattle.pdn_base.specs.Operators.{filter_rows, project_rows, join_rows, group_rows, count_rows, distinct_rows, number_rows, top_rows}
-use Rattle.pdn_plan.specs.declared.node.Node.{Node, Node-F, fold-roll-Node}
-use Rattle.pdn_plan.specs.declared.node.Node.TheVariants.{rolls-Scan, rolls-Filter, rolls-Project, rolls-Join, rolls-Group, rolls-Count, rolls-Distinct, rolls-Number, rolls-Top}
-use Rattle.pdn_plan.specs.declared.node.Node.TheVariants as node
-use Rattle.pdn_plan.specs.Columns.{Clauses}
-use Rattle.pdn_plan.specs.Meaning.{Rows, mean, mean_step}
+use Rattle.pdn_tree.specs.declared.node.Node.{Node, Node-F, fold-roll-Node}
+use Rattle.pdn_tree.specs.declared.node.Node.TheVariants.{rolls-Scan, rolls-Filter, rolls-Project, rolls-Join, rolls-Group, rolls-Count, rolls-Distinct, rolls-Number, rolls-Top}
+use Rattle.pdn_tree.specs.declared.node.Node.TheVariants as node
+use Rattle.pdn_tree.specs.Columns.{Clauses}
+use Rattle.pdn_tree.specs.Meaning.{Rows, mean, mean_step}
 
 pub mean-Scan : (tables : ℕ → Rows) (table : ℕ) → mean tables (node.Scan table) ≡ tables table
 mean-Scan tables table = ap (mean tables) (sym (rolls-Scan table)) ∙ fold-roll-Node Rows (mean_step tables) (Node-F.Scan table)

@@ -1,9 +1,9 @@
 -- A plan as contracts see it, and what every plan keeps.
 use Rattle.std.specs.Prelude.{◌≡◌, true, not, List, Option, find}
 use Rattle.std.specs.List.{list_all}
-use Rattle.pdn_plan.specs.declared.node.Node.{Node}
-use Rattle.pdn_plan.specs.declared.plan.OutColumn.{OutColumn}
-use Rattle.pdn_plan.specs.Shapes.{is_public, is_top, tops}
+use Rattle.pdn_tree.specs.declared.node.Node.{Node}
+use Rattle.pdn_tree.specs.declared.plan.OutColumn.{OutColumn}
+use Rattle.pdn_tree.specs.Shapes.{is_public, is_top, tops}
 
 pub record PlanModel : Type 0 where
   pub root : Node

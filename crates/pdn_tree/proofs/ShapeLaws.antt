@@ -5,11 +5,11 @@ use Rattle.pdn_base.specs.declared.marks.Kind.{Kind}
 use Rattle.pdn_base.specs.declared.marks.Kind.TheVariants as kind
 use Rattle.pdn_base.specs.declared.order.Key.{Key}
 use Rattle.pdn_schema.specs.Models.{SchemaModel}
-use Rattle.pdn_plan.specs.declared.node.Node.{Node, Node-F, fold-roll-Node}
-use Rattle.pdn_plan.specs.declared.node.Node.TheVariants.{rolls-Scan, rolls-Filter, rolls-Project, rolls-Join, rolls-Group, rolls-Count, rolls-Distinct, rolls-Number, rolls-Top}
-use Rattle.pdn_plan.specs.declared.node.Node.TheVariants as node
-use Rattle.pdn_plan.specs.Columns.{Clauses}
-use Rattle.pdn_plan.specs.Shapes.{Shape, shaped, shape, shape_step, has_join, join_step, kind_at, all_within, cond_fits, key_columns, table_columns}
+use Rattle.pdn_tree.specs.declared.node.Node.{Node, Node-F, fold-roll-Node}
+use Rattle.pdn_tree.specs.declared.node.Node.TheVariants.{rolls-Scan, rolls-Filter, rolls-Project, rolls-Join, rolls-Group, rolls-Count, rolls-Distinct, rolls-Number, rolls-Top}
+use Rattle.pdn_tree.specs.declared.node.Node.TheVariants as node
+use Rattle.pdn_tree.specs.Columns.{Clauses}
+use Rattle.pdn_tree.specs.Shapes.{Shape, shaped, shape, shape_step, has_join, join_step, kind_at, all_within, cond_fits, key_columns, table_columns}
 
 -- a shape that is sound
 abbrev pub sound_shape : List Kind → Bool → Shape

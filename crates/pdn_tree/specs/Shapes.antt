@@ -12,8 +12,8 @@ use Rattle.pdn_base.specs.declared.cond.Operand.TheVariants as operand
 use Rattle.pdn_base.specs.declared.cond.Cmp.{Cmp}
 use Rattle.pdn_schema.specs.declared.schema.Column.{Column}
 use Rattle.pdn_schema.specs.Models.{TableModel, SchemaModel}
-use Rattle.pdn_plan.specs.declared.node.Node.{Node, fold-Node, out-Node}
-use Rattle.pdn_plan.specs.declared.node.Node.TheOpen.{Node-F}
+use Rattle.pdn_tree.specs.declared.node.Node.{Node, fold-Node, out-Node}
+use Rattle.pdn_tree.specs.declared.node.Node.TheOpen.{Node-F}
 
 -- the columns of a table, by its place in the schema; of no table, none
 abbrev pub columns_in : Option TableModel → List Column

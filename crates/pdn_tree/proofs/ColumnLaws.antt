@@ -9,7 +9,7 @@ use Rattle.pdn_base.specs.declared.cond.Operand.TheVariants as operand
 use Rattle.pdn_base.specs.declared.cond.Cmp.{Cmp}
 use Rattle.pdn_base.specs.Values.{cell, cut}
 use Rattle.pdn_base.specs.Conditions.{plus, operand_value, compares, cmp_true, clause_true, meets}
-use Rattle.pdn_plan.specs.Columns.{Clauses, operand_at, cmp_at, clauses_at, OperandNames, CmpNames, Names, place_in, Has, shifted, Below}
+use Rattle.pdn_tree.specs.Columns.{Clauses, operand_at, cmp_at, clauses_at, OperandNames, CmpNames, Names, place_in, Has, shifted, Below}
 
 -- a cell of one row is the cell of another at its new place
 abbrev pub Moves : (ℕ → ℕ) → List Value → List Value → ℕ → Type 0
