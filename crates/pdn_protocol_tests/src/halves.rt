@@ -1,13 +1,14 @@
+//! One And gate by two halves, frame by frame and at once.
 ghost use Rattle.std.specs.Prelude.{◌≡◌, length, IfOk, IsTrue};
 ghost use Rattle.pdn_gmw.specs.declared.stage.Stage.TheVariants.{Wanting, Over};
 ghost use Rattle.pdn_base.specs.declared.site.Site.TheVariants.{A, B};
 ghost use Rattle.pdn_circuit.specs.Gates.{is_input_of, input_count, given_count};
 ghost use Rattle.pdn_gmw.specs.Pairs.{ArePair};
 
-use crate::{FrameErr, Half, Step, run_pair};
 use pdn_base::{Memory, Site, Word};
 use pdn_circuit::{Builder, Circuit, Gate};
 use pdn_dealer::{ChaChaDeal, Deal, ListDeal, section_len};
+use pdn_gmw::{FrameErr, Half, Step, run_pair};
 use std::alloc::Global;
 use std::test::Fail;
 
@@ -126,17 +127,6 @@ fn one_and(alloc: Global) -> Result<Circuit, Fail> {
 // r of both inputs, then a0, a1, b0, b1, c0, then the mask.
 const SECTION: [u64; 8] = [0x0f, 0x33, 0x55, 0x0f, 0x33, 0xff, 0xaa, 0x01];
 
-#[test]
-fn one_and_gate_by_hand(rt: HostRuntime) -> Result<(), Fail> {
-    let alloc = rt.alloc();
-    let circuit = one_and(alloc)?;
-    let deal = deal_words(alloc, &SECTION)?;
-    let (a, b) = outputs(alloc, &circuit, &deal, &[0xf0], &[0x3c])?;
-    assert_eq!(rt; a, 0x79);
-    assert_eq!(rt; b, 0x49);
-    Ok(())
-}
-
 fn sends(half: &mut Half, expected: &[u64]) -> bool {
     match half.next() {
         Step::Send(frame) => {
@@ -218,12 +208,17 @@ fn a_circuit_without_and_gates_sends_nothing(rt: HostRuntime) -> Result<(), Fail
 }
 
 #[test]
-fn the_sum_is_the_same_for_every_tape(rt: HostRuntime) -> Result<(), Fail> {
+fn one_and_gate_is_as_by_hand_and_its_sum_the_same_for_every_tape(
+    rt: HostRuntime,
+) -> Result<(), Fail> {
     let alloc = rt.alloc();
     let circuit = one_and(alloc)?;
+    let given = deal_words(alloc, &SECTION)?;
     let zero = ListDeal::new(Vec::new(alloc));
     let ones = deal_words(alloc, &[u64::MAX; 8])?;
     let stream = ChaChaDeal::new([5; 32]);
+    let by_hand = outputs(alloc, &circuit, &given, &[0xf0], &[0x3c])?;
+    assert_eq!(rt; by_hand, (0x79, 0x49));
     let (a, b) = outputs(alloc, &circuit, &zero, &[0xf0], &[0x3c])?;
     assert_eq!(rt; a ^ b, 0x30, "zero words");
     let (a, b) = outputs(alloc, &circuit, &ones, &[0xf0], &[0x3c])?;
