@@ -2,12 +2,11 @@
 ghost use Rattle.std.specs.Prelude.{◌≡◌, ◌<◌, ◌≤◌, ◌∷◌, [], length, IfOk};
 ghost use Rattle.std.specs.List.{All};
 ghost use Rattle.pdn_base.specs.declared.marks.Kind.TheVariants as kind;
-ghost use Rattle.pdn_circuit.specs.Gates.{given_count, input_count, is_input_of};
 ghost use Rattle.pdn_obl_rows.specs.Lists.{IsShaped, widths, words_for};
 ghost use Rattle.pdn_obl_rows.specs.Operators.{IsThere};
 
 use pdn_base::{Kind, Site, Word};
-use pdn_circuit::{BuildErr, Builder, Circuit, Gate, Inputs, eval};
+use pdn_circuit::{BuildErr, Builder, Circuit, Inputs, eval};
 use pdn_obl_rows::{Padded, Plane, words_for};
 use std::alloc::Global;
 use std::test::Fail;
@@ -124,47 +123,11 @@ pub fn words_with(
     Ok(words)
 }
 
-fn takes(circuit: &Circuit, site: Site) -> usize
-    ensures { result ≡ input_count site circuit.now.gates }
-{
-    match site {
-        Site::A => circuit
-            .gates
-            .iter()
-            .filter(|gate| is_input_of(Site::A, gate))
-            .count(),
-        Site::B => circuit
-            .gates
-            .iter()
-            .filter(|gate| is_input_of(Site::B, gate))
-            .count(),
-    }
-}
-
-fn is_input_of(site: Site, gate: &Gate) -> bool
-    ensures { result ≡ is_input_of site gate.now }
-{
-    match gate {
-        Gate::Input { site: other, .. } => site == *other,
-        _ => false,
-    }
-}
-
-fn takes_given(circuit: &Circuit) -> usize
-    ensures { result ≡ given_count circuit.now.gates }
-{
-    circuit
-        .gates
-        .iter()
-        .filter(|gate| matches!(gate, Gate::Given { .. }))
-        .count()
-}
-
 /// The words of all gates on these inputs, which are as many as the circuit takes.
 pub fn words_on(alloc: Global, circuit: &Circuit, inputs: &Inputs) -> Result<Vec<Word>, Fail> {
-    let a = takes(circuit, Site::A) == inputs.a.len();
-    let b = takes(circuit, Site::B) == inputs.b.len();
-    let given = takes_given(circuit) == inputs.given.len();
+    let a = circuit.input_count(Site::A) == inputs.a.len();
+    let b = circuit.input_count(Site::B) == inputs.b.len();
+    let given = circuit.given_count() == inputs.given.len();
     if !a || !b || !given {
         return Err(Fail::new("the circuit takes other words"));
     }
