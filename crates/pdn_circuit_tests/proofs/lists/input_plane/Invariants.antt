@@ -1,6 +1,6 @@
 use Rattle.std.proofs.Common.{◌≡◌, ◌≤◌, ◌<◌, length}
 use Rattle.std.specs.List.{All}
-use Rattle.pdn_obl_group.proofs.tests.input_plane.Given as goal
+use Rattle.pdn_circuit_tests.proofs.lists.input_plane.Given as goal
 
 abbrev pub invariant-loop : goal.invariant-loop
 invariant-loop l = record {

@@ -1,7 +1,7 @@
 use Rattle.std.proofs.Common.{◌≡◌, ◌≤◌, ◌<◌, length, List, ℕ}
 use Rattle.std.specs.List.{All}
 use Rattle.pdn_obl_rows.specs.Lists.{words_for}
-use Rattle.pdn_obl_rows.proofs.tests.input_list.Given as goal
+use Rattle.pdn_circuit_tests.proofs.lists.input_list.Given as goal
 
 abbrev pub invariant-loop : goal.invariant-loop
 invariant-loop l = record {

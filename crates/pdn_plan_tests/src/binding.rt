@@ -1,36 +1,10 @@
-use crate::{Node, Plan, PlanErr, bind};
+//! Queries that are refused, each with the first rule that it breaks, and the trees of others.
+use crate::plans::{SCHEMA, bound, schema_of};
 use pdn_base::{Clause, ColumnName, Cond, Key, Label, Memory, Op, Operand, Term};
-use pdn_schema::{Schema, read_schema};
-use pdn_sql::{Query, read_queries};
+use pdn_plan::{Node, PlanErr};
+use pdn_schema::Schema;
 use std::alloc::Global;
 use std::test::Fail;
-
-const SCHEMA: &str =
-    "version 1\nfloor 3\ncaller ann calls 2\ntable t rows 8\ncolumn c int private\ntable diag rows 16\ncolumn pid int public per 4\ncolumn code code protected\ncolumn day int private\ntable med rows 16\ncolumn pid int public per 4\ncolumn drug code protected\ncolumn day int private\ntable wide rows 256\ncolumn y int public per 64\ncolumn x int private\nend\n";
-
-fn schema_of(alloc: Global) -> Result<Schema, Memory> {
-    if SCHEMA.len() < 1_000 {
-        read_schema(alloc, SCHEMA.as_bytes()).map_err(|_| Memory)
-    } else {
-        Err(Memory)
-    }
-}
-
-fn queries_of(alloc: Global, text: &str) -> Result<Vec<Query>, Memory> {
-    if text.len() < 4_096 {
-        read_queries(alloc, text.as_bytes(), 1).map_err(|_| Memory)
-    } else {
-        Err(Memory)
-    }
-}
-
-/// What binding says of a text that is a query.
-fn bound(alloc: Global, text: &str) -> Result<Result<Plan, PlanErr>, Fail> {
-    let schema = schema_of(alloc)?;
-    let queries = queries_of(alloc, text)?;
-    let query = queries.first().ok_or("the text is a query")?;
-    Ok(bind(alloc, &schema, query))
-}
 
 /// A query, the kind of the rule that it breaks first, and the name at fault.
 const REFUSED: &[(&str, u8, &str)] = &[
@@ -205,28 +179,20 @@ const IN_ORDER: &[(&str, u8, &str)] = &[
     ("SELECT code FROM diag ORDER BY day;", 2, "day"),
 ];
 
-/// The kind and the name of the rule that a query breaks first; kind 0, where it breaks none.
-fn refusal(alloc: Global, text: &str) -> Result<(u8, ColumnName), Fail> {
-    match bound(alloc, text)? {
+/// The kind of a refusal and the name at fault; kind 0, where there is a plan or another error.
+fn refusal(alloc: Global, schema: &Schema, text: &str) -> Result<(u8, ColumnName), Fail> {
+    match bound(alloc, schema, text)? {
         Err(PlanErr::Refused { kind, name }) => Ok((kind, name)),
         _ => Ok((0, ColumnName::new(alloc, "")?)),
     }
 }
 
 #[test]
-fn each_kind_is_refused_with_its_name(rt: HostRuntime) -> Result<(), Fail> {
-    for (text, kind, name) in REFUSED {
-        let (k, n) = refusal(rt.alloc(), text)?;
-        assert_eq!(rt; k, *kind, "{text}");
-        assert_eq!(rt; n.as_str(), *name, "{text}");
-    }
-    Ok(())
-}
-
-#[test]
-fn of_two_faults_the_first_is_told(rt: HostRuntime) -> Result<(), Fail> {
-    for (text, kind, name) in IN_ORDER {
-        let (k, n) = refusal(rt.alloc(), text)?;
+fn the_first_rule_that_is_broken_is_told_with_its_name(rt: HostRuntime) -> Result<(), Fail> {
+    let alloc = rt.alloc();
+    let schema = schema_of(alloc, SCHEMA)?;
+    for (text, kind, name) in REFUSED.iter().chain(IN_ORDER) {
+        let (k, n) = refusal(alloc, &schema, text)?;
         assert_eq!(rt; k, *kind, "{text}");
         assert_eq!(rt; n.as_str(), *name, "{text}");
     }
@@ -269,8 +235,8 @@ const FORBIDDEN: &[(&str, &str, Label)] = &[
 ];
 
 /// The first column that isn't public; no name, where there is a plan or another error.
-fn forbidden(alloc: Global, text: &str) -> Result<(ColumnName, Label), Fail> {
-    match bound(alloc, text)? {
+fn forbidden(alloc: Global, schema: &Schema, text: &str) -> Result<(ColumnName, Label), Fail> {
+    match bound(alloc, schema, text)? {
         Err(PlanErr::Forbidden { column, label }) => Ok((column, label)),
         _ => Ok((ColumnName::new(alloc, "")?, Label::Public)),
     }
@@ -278,8 +244,10 @@ fn forbidden(alloc: Global, text: &str) -> Result<(ColumnName, Label), Fail> {
 
 #[test]
 fn the_first_column_that_is_not_public_is_named(rt: HostRuntime) -> Result<(), Fail> {
+    let alloc = rt.alloc();
+    let schema = schema_of(alloc, SCHEMA)?;
     for (text, name, label) in FORBIDDEN {
-        let (n, l) = forbidden(rt.alloc(), text)?;
+        let (n, l) = forbidden(alloc, &schema, text)?;
         assert_eq!(rt; n.as_str(), *name, "{text}");
         assert_eq!(rt; l, *label, "{text}");
     }
@@ -459,21 +427,17 @@ const PLANS: &[(&str, &str)] = &[
         "WITH a AS (SELECT DISTINCT pid FROM diag) SELECT p.pid, q.pid, r.pid FROM a p JOIN a q ON q.pid = p.pid JOIN a r ON r.pid = p.pid LIMIT 3;",
         "top(join(join(distinct(project(scan 1; 0)), distinct(project(scan 1; 0)); [ 1=0 ]), distinct(project(scan 1; 0)); [ 2=0 ]);; 3)",
     ),
+    // a window downwards
+    (
+        "WITH d AS (SELECT pid, ROW_NUMBER() OVER (PARTITION BY pid ORDER BY day DESC, code) AS r FROM diag) SELECT pid FROM d WHERE r = 1;",
+        "top(project(filter(project(number(scan 1; 0; 2 desc 1); 0 3); [ 1=#1 ]); 0);; none)",
+    ),
+    // a scope of three tables of eight columns
+    (
+        "SELECT u.a FROM u JOIN v ON u.a = v.a JOIN w ON v.h = w.h WHERE w.b = 5;",
+        "top(project(join(join(project(scan 5; 0), project(scan 6; 0 7); [ 0=1 ]), project(filter(scan 7; [ 1=#5 ]); 7); [ 2=3 ]); 0);; none)",
+    ),
 ];
-
-#[test]
-fn a_query_has_this_plan(rt: HostRuntime) -> Result<(), Fail> {
-    for (text, want) in PLANS {
-        match bound(rt.alloc(), text)? {
-            Ok(plan) => {
-                let tree = tree_text(rt.alloc(), &plan.root)?;
-                assert_eq!(rt; tree.as_str(), *want, "{text}");
-            }
-            Err(_) => assert!(rt; false, "no plan: {text}"),
-        }
-    }
-    Ok(())
-}
 
 /// Queries at a bound: 16 columns, and 32 nodes.
 const AT_BOUND: &[&str] = &[
@@ -481,10 +445,24 @@ const AT_BOUND: &[&str] = &[
     "WITH a AS (SELECT DISTINCT pid FROM diag) SELECT p.pid, q.pid, r.pid, s.pid, u.pid, v.pid, w.pid, x.pid FROM a p JOIN a q ON q.pid = p.pid JOIN a r ON r.pid = p.pid JOIN a s ON s.pid = p.pid JOIN a u ON u.pid = p.pid JOIN a v ON v.pid = p.pid JOIN a w ON w.pid = p.pid JOIN a x ON x.pid = p.pid;",
 ];
 
+/// The tree of a query's plan; no text, where it has none.
+fn planned(alloc: Global, schema: &Schema, text: &str) -> Result<String, Fail> {
+    match bound(alloc, schema, text)? {
+        Ok(plan) => Ok(tree_text(alloc, &plan.root)?),
+        Err(_) => Ok(String::new(alloc)),
+    }
+}
+
 #[test]
-fn sixteen_columns_and_thirty_two_nodes_are_taken(rt: HostRuntime) -> Result<(), Fail> {
+fn a_query_has_this_plan(rt: HostRuntime) -> Result<(), Fail> {
+    let alloc = rt.alloc();
+    let schema = schema_of(alloc, SCHEMA)?;
+    for (text, want) in PLANS {
+        let tree = planned(alloc, &schema, text)?;
+        assert_eq!(rt; tree.as_str(), *want, "{text}");
+    }
     for text in AT_BOUND {
-        assert!(rt; bound(rt.alloc(), text)?.is_ok(), "{text}");
+        assert!(rt; bound(alloc, &schema, text)?.is_ok(), "{text}");
     }
     Ok(())
 }
