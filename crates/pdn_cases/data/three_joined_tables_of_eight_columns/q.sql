@@ -1,1 +1,0 @@
-SELECT e1, e2, e3, e4, e5, e6, e7, e8, f2, f5, f6, f7, g2, g5, g6, g8 FROM e JOIN f ON e1 = f1 AND e8 = f8 JOIN g ON f1 = g1 AND f3 = g3 AND f4 = g4 AND g7 = f7;
