@@ -2,7 +2,7 @@
 ghost use Rattle.std.specs.Prelude.{◌≡◌, ◌<◌, ◌-◌, ◌^◌, ◌++◌, [], ◌∷◌, length, get_or, cond, IfOk, OnOk, None, Some};
 ghost use Rattle.std.specs.List.{flat_map};
 ghost use Rattle.pdn_schema.specs.Rows.{union};
-ghost use Rattle.pdn_plan.specs.Meaning.{mean};
+ghost use Rattle.pdn_tree.specs.Meaning.{mean};
 ghost use Rattle.pdn_circuit.specs.Gates.{InOrder};
 ghost use Rattle.pdn_site.specs.Engines.{no_unit};
 ghost use Rattle.pdn_site.specs.declared.unit.UnitKind.TheVariants as kind;

@@ -3,6 +3,7 @@ pub mod DepthLaws
 pub mod DepthMeaning
 pub mod CountLaws
 pub mod Reading
+pub mod RunLaws
 pub mod PlainLaws
 pub mod CompareLaws
 pub mod Building
