@@ -10,7 +10,7 @@ use Rattle.pdn_circuit.specs.Gates.{Net, ands, operands_of}
 use Rattle.pdn_circuit.specs.declared.gate.Gate.TheVariants.{Input, Given, Const, Xor, And, Spread, Move}
 use Rattle.pdn_circuit.proofs.ValueLaws.{ands_more}
 use Rattle.pdn_circuit.specs.Depths.{gate_depth, next_depths, depths_of}
-use Rattle.pdn_dealer.specs.Sections.{is_and}
+use Rattle.pdn_circuit.specs.Gates.{is_and}
 use Rattle.pdn_gmw.specs.Steps.{frame_count}
 use Rattle.pdn_gmw.specs.Layers.{LayerAnd, is_linear, first_of, second_of, gate_at, number_of_and, and_of, is_layer_and, is_layer_rest, LayerWords, no_layer, layer_to, layer_of, layer_more, AreLayers}
 

@@ -9,7 +9,7 @@ use Rattle.pdn_circuit.specs.declared.gate.Gate.{Gate}
 use Rattle.pdn_circuit.specs.declared.gate.Gate.TheVariants.{Input, Given, Const, Xor, And, Spread, Move}
 use Rattle.pdn_circuit.specs.Gates.{operands_of, ands}
 use Rattle.pdn_circuit.specs.Depths.{and_rounds_from, and_rounds, own_round, depths_of}
-use Rattle.pdn_dealer.specs.Sections.{is_and}
+use Rattle.pdn_circuit.specs.Gates.{is_and}
 use Rattle.pdn_gmw.specs.Shares.{Masked, blank}
 use Rattle.pdn_gmw.specs.Rounds.{pick, put}
 use Rattle.pdn_gmw.specs.Layers.{LayerAnd, gate_at, number_of_and, and_of, is_layer_and}

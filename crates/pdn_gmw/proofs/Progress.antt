@@ -12,7 +12,8 @@ use Rattle.pdn_circuit.specs.declared.gate.Gate.{Gate}
 use Rattle.pdn_circuit.specs.declared.gate.Gate.TheVariants.{Input, Given, Const, Xor, And, Spread, Move}
 use Rattle.pdn_circuit.specs.Gates.{Net, InOrder, operands_of, ands, is_input, is_input_of, is_given, input_count, given_count, NamesBelow, TakesNext, IsCircuit}
 use Rattle.pdn_circuit.proofs.Reading.{counts_on}
-use Rattle.pdn_dealer.specs.Sections.{r_count, five_count, is_and}
+use Rattle.pdn_dealer.specs.Sections.{r_count, five_count}
+use Rattle.pdn_circuit.specs.Gates.{is_and}
 use Rattle.pdn_dealer.proofs.SectionWords.{length-ands}
 use Rattle.pdn_gmw.specs.Shares.{Masked, blank, inputs_after}
 use Rattle.pdn_gmw.specs.Halves.{HalfWords, HalfWalk, half_start, heard_at, share_from, masked_from, half_share, half_sends, half_masked, half_step, half_walk, IsOwn}

@@ -5,7 +5,7 @@ use Rattle.std.specs.List.{fold, flat_map, range_with_len}
 use lib.Lanes.{zip2}
 use Rattle.std.proofs.lemmas.Bool.{cases_Bool, cond-true, cond-false}
 use Rattle.std.proofs.lemmas.List.Sums.{count_by-le-length}
-use Rattle.pdn_dealer.specs.Sections.{is_and}
+use Rattle.pdn_circuit.specs.Gates.{is_and}
 use Rattle.pdn_dealer.proofs.SectionWords.{length-ands}
 use Rattle.std.proofs.lemmas.List.{length-map, length-replicate}
 use Rattle.std.proofs.lemmas.List.FromFn.{length-range_with_len, get_or-range_with_len, get_or-map-range_with_len}

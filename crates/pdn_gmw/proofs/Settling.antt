@@ -16,7 +16,8 @@ use Rattle.pdn_circuit.specs.Depths.{IsAfter, InRounds, gate_depth, and_rounds, 
 use Rattle.pdn_circuit.proofs.DepthLaws.{depths_in_rounds}
 use Rattle.pdn_circuit.proofs.DepthMeaning.{depth_here}
 use Rattle.pdn_dealer.specs.declared.parts.Triple.{Triple}
-use Rattle.pdn_dealer.specs.Sections.{no_triple, is_and}
+use Rattle.pdn_dealer.specs.Sections.{no_triple}
+use Rattle.pdn_circuit.specs.Gates.{is_and}
 use Rattle.pdn_gmw.specs.Shares.{Masked, GateView}
 use Rattle.pdn_gmw.specs.Halves.{HalfWords, triple_at, heard_at, half_product, share_from, half_walk}
 use Rattle.pdn_gmw.specs.Layers.{LayerAnd, is_linear, first_of, second_of, gate_at, number_of_and, and_of, is_layer_and, is_layer_rest, layer_of}

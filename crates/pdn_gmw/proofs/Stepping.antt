@@ -18,7 +18,8 @@ use Rattle.pdn_circuit.specs.Gates.{Net, InOrder, IsCircuit, NamesBelow, ands}
 use Rattle.pdn_circuit.specs.Depths.{and_rounds, depths_of}
 use Rattle.pdn_circuit.proofs.Reading.{counts_on}
 use Rattle.pdn_dealer.specs.declared.parts.Triple.{Triple}
-use Rattle.pdn_dealer.specs.Sections.{is_and, five_count, PartWords}
+use Rattle.pdn_dealer.specs.Sections.{five_count, PartWords}
+use Rattle.pdn_circuit.specs.Gates.{is_and}
 use Rattle.pdn_dealer.proofs.SectionWords.{length-ands}
 use Rattle.pdn_gmw.specs.Shares.{Masked, GateView, blank, gate_view, UnitWords, r_words, other_site}
 use Rattle.pdn_gmw.specs.Halves.{HalfWords, triple_at, masked_from, half_walk, half_view, half_outputs}

@@ -6,7 +6,7 @@ use Rattle.pdn_circuit.specs.declared.gate.Gate.{Gate}
 use Rattle.pdn_circuit.specs.declared.gate.Gate.TheVariants.{Input, Given, Const, Xor, And, Spread, Move}
 use Rattle.pdn_circuit.specs.Gates.{Net, ands}
 use Rattle.pdn_circuit.specs.Depths.{depths_of}
-use Rattle.pdn_dealer.specs.Sections.{is_and}
+use Rattle.pdn_circuit.specs.Gates.{is_and}
 use Rattle.pdn_gmw.specs.Steps.{frame_count}
 
 -- the gates whose shares come of shares alone

@@ -1,5 +1,5 @@
 -- Small runs, worked out apart from these definitions (by two machines in another language).
-use Rattle.std.specs.Prelude.{◌≡◌, ℕ, true, List, [], ◌∷◌}
+use Rattle.std.specs.Prelude.{◌≡◌, ℕ, true, false, List, [], ◌∷◌}
 use Rattle.pdn_circuit.specs.Gates.{Net}
 use Rattle.pdn_circuit.specs.declared.gate.Gate.TheVariants.{Input, Const, Xor, And, Spread, Move}
 use Rattle.pdn_base.specs.declared.site.Site.TheVariants.{A, B}
