@@ -11,10 +11,11 @@ ghost use Rattle.pdn_site.specs.RootWords.{root_inputs};
 ghost use Rattle.pdn_broker.specs.declared.preparing.PrepareErr.TheVariants.{Memory};
 ghost use Rattle.pdn_broker.specs.Answering.{top_order};
 ghost use Rattle.pdn_broker.specs.Prepared.{AreEngines, AreTooLarge, IsOf, IsPrepared, IsNotPrepared, IsRefusedAt, compile_refusal};
-ghost use Rattle.pdn_broker.specs.Units.{AreUnits};
+ghost use Rattle.pdn_broker.specs.Units.{AreUnits, UnitsStand};
 
 use crate::prepared::Prepared;
 use crate::shares::Shares;
+use crate::units::look_at_units;
 use pdn_base::{Key, Kind, Memory, RowsErr, Site, Tables};
 use pdn_level::{Staged, levels};
 use pdn_plan::{Node, Plan};
@@ -64,6 +65,13 @@ struct BothEngines {
     b: SiteEngine,
 }
 
+/// What is public of both sites' rows, and the units that it makes.
+#[derive(Drop)]
+struct PublicUnits {
+    view: PublicView,
+    units: Units,
+}
+
 /// What an answer needs besides: the kinds of its columns, its order, and both sites' words of the root.
 #[derive(Drop)]
 struct Ends {
@@ -108,6 +116,7 @@ fn public_view(
 {
     let mut dirs = Vec::new(alloc);
     for i in 0..staged.segments.len() {
+        // More segments than their numbers can tell.
         let Ok(segment) = u32::try_from(i) else {
             return Err(Memory);
         };
@@ -178,8 +187,8 @@ fn engines(
     Ok(BothEngines { a, b })
 }
 
-/// The units that both sites' directories make.
-#[tactic(auto, using(crate::proofs::PreparingLaws::too_many, crate::proofs::PreparingLaws::units_made))]
+/// The directories of both sites, and the units that they make.
+#[tactic(auto, using(crate::proofs::PreparingLaws::too_many, crate::proofs::PreparingLaws::units_made, crate::proofs::PreparingLaws::dirs_made))]
 fn units_over(
     alloc: Global,
     schema: &Schema,
@@ -187,16 +196,19 @@ fn units_over(
     staged: &Staged,
     a: &SiteEngine,
     b: &SiteEngine,
-) -> Result<Units, PrepareErr>
+) -> Result<PublicUnits, PrepareErr>
     requires staged { staged.now ≡ segments_of schema.now plan.now.root [] }
     requires a { a.now.staged ≡ staged.now }
     requires b { b.now.staged ≡ staged.now }
-    ensures units { IfOk result (λ units. AreUnits schema.now a.now.tables b.now.tables plan.now.root units) }
+    ensures view { IfOk result (λ made. made.view ≡ site_dirs a.now.tables b.now.tables (segments_of schema.now plan.now.root [])) }
+    ensures units { IfOk result (λ made. AreUnits schema.now a.now.tables b.now.tables plan.now.root made.units) }
+    ensures stand { IfOk result (λ made. UnitsStand made.units) }
     ensures large { IfErr result (AreTooLarge schema.now plan.now.root a.now.tables b.now.tables) }
 {
     let view = public_view(alloc, staged, a, b)?;
     let units = compile(alloc, schema, plan, staged, &view)?;
-    Ok(units)
+    look_at_units(&units);
+    Ok(PublicUnits { view, units })
 }
 
 /// The kinds and the order of the answer, and both sites' words of the root.
@@ -232,15 +244,16 @@ fn look_at_plan(plan: &Plan)
 }
 
 /// All of these together.
-fn together(engines: BothEngines, units: Units, ends: Ends) -> Prepared
-    requires { IsPrepared (record { a = engines.a; b = engines.b; units = units; columns = ends.columns.items; order = ends.order.items; own = ends.own }) }
+fn together(engines: BothEngines, made: PublicUnits, ends: Ends) -> Prepared
+    requires { IsPrepared (record { a = engines.a; b = engines.b; dirs = made.view; units = made.units; columns = ends.columns.items; order = ends.order.items; own = ends.own }) }
     ensures a { result.a ≡ engines.a }
     ensures b { result.b ≡ engines.b }
 {
     Prepared {
         a: engines.a,
         b: engines.b,
-        units,
+        view: made.view,
+        units: made.units,
         columns: ends.columns,
         order: ends.order,
         own: ends.own,
@@ -268,8 +281,8 @@ pub fn prepare(
 {
     let staged = levels(alloc, schema, plan)?;
     let engines = engines(alloc, schema, plan, &staged, tables_a, tables_b)?;
-    let units = units_over(alloc, schema, plan, &staged, &engines.a, &engines.b)?;
-    let ends = ends_of(alloc, schema, plan, &units, &engines)?;
+    let made = units_over(alloc, schema, plan, &staged, &engines.a, &engines.b)?;
+    let ends = ends_of(alloc, schema, plan, &made.units, &engines)?;
     look_at_plan(plan);
-    Ok(together(engines, units, ends))
+    Ok(together(engines, made, ends))
 }
