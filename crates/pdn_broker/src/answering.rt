@@ -5,7 +5,17 @@ ghost use Rattle.pdn_schema.specs.Rows.{union};
 ghost use Rattle.pdn_plan.specs.Meaning.{mean};
 ghost use Rattle.pdn_site.specs.declared.unit.UnitKind.TheVariants as kind;
 ghost use Rattle.pdn_broker.specs.Units.{is_dealt, is_secure, dealt_of};
-ghost use Rattle.pdn_broker.specs.Running.{unit_at, engines_own, secure_run, secure_runs, outputs_of, root_run, opened_list, Opens, IsAnswered};
+ghost use Rattle.pdn_broker.specs.Running.{
+  unit_at,
+  engines_own,
+  secure_run,
+  secure_runs,
+  outputs_of,
+  root_run,
+  opened_list,
+  Opens,
+  IsAnswered,
+};
 
 use crate::answered::{Answered, Dealt};
 use crate::opening::opened_rows;
@@ -20,10 +30,12 @@ use pdn_site::{Unit, Units};
 use std::alloc::Global;
 
 /// Both sites' words of a secure unit.
+#[tactic(auto, using(crate::proofs::PreparedLaws::placed_a, crate::proofs::PreparedLaws::placed_b))]
 fn secure_own(alloc: Global, prepared: &Prepared, unit: u64) -> Result<Shares, Memory>
     requires in_range { unit < length prepared.now.units }
     requires secure { (unit_at prepared.now unit).kind ≡ kind.Secure }
-    ensures { IfOk result (λ own. own ≡ engines_own prepared.now.a prepared.now.b (unit_at prepared.now unit)) }
+    ensures { IfOk result (λ own.
+        own ≡ engines_own prepared.now.a prepared.now.b (unit_at prepared.now unit)) }
 {
     Ok(Shares {
         a: prepared.a.secure_inputs(alloc, &prepared.units, unit)?,
@@ -40,7 +52,8 @@ fn secure_run<D: Deal>(
 ) -> Result<UnitRun, Memory>
     requires in_range { at.unit < length prepared.now.units }
     requires secure { (unit_at prepared.now at.unit).kind ≡ kind.Secure }
-    ensures { IfOk result (λ run. run ≡ secure_run prepared.now (D.tape deal.now) at.ticket at.unit) }
+    ensures { IfOk result (λ run.
+        run ≡ secure_run prepared.now (D.tape deal.now) at.ticket at.unit) }
 {
     let own = secure_own(alloc, prepared, at.unit)?;
     let unit = unit_at(&prepared.units, at.unit);
@@ -56,7 +69,8 @@ fn push_run<D: Deal>(
     deal: &D,
 ) -> Result<(), Memory>
     requires { at.unit < length prepared.now.units }
-    ensures { OnOk result (runs.new.items ≡ runs.old.items ++ cond (is_secure (unit_at prepared.now at.unit).kind)
+    ensures { OnOk result (runs.new.items
+        ≡ runs.old.items ++ cond (is_secure (unit_at prepared.now at.unit).kind)
         (secure_run prepared.now (D.tape deal.now) at.ticket at.unit ∷ []) []) }
 {
     if is_secure(unit_at(&prepared.units, at.unit)) {
@@ -123,7 +137,8 @@ fn root_run<D: Deal>(
 /// The rows that the root's two outputs come to, in the query's order.
 fn rows_of(alloc: Global, prepared: &Prepared, run: &UnitRun) -> Result<Rows, Memory>
     requires { Opens prepared.now run.now }
-    ensures { IfOk result (λ rows. rows ≡ listed prepared.now.order (opened_list prepared.now run.now)) }
+    ensures { IfOk result (λ rows.
+        rows ≡ listed prepared.now.order (opened_list prepared.now run.now)) }
 {
     let root = unit_at(&prepared.units, prepared.units() - 1);
     opened_rows(
@@ -138,7 +153,8 @@ fn rows_of(alloc: Global, prepared: &Prepared, run: &UnitRun) -> Result<Rows, Me
 
 /// Adds the section of a unit, where one is dealt for it.
 fn push_dealt(dealt: &mut Vec<Dealt>, unit: &Unit, at: Dealt) -> Result<(), Memory>
-    ensures { OnOk result (dealt.new.items ≡ dealt.old.items ++ cond (is_dealt unit.now.kind) (at ∷ []) []) }
+    ensures { OnOk result (dealt.new.items
+        ≡ dealt.old.items ++ cond (is_dealt unit.now.kind) (at ∷ []) []) }
 {
     if is_dealt(unit) {
         dealt.push(at)?;
@@ -192,8 +208,10 @@ pub fn answer<D: Deal>(
     deal: &D,
 ) -> Result<Answered, Memory>
     requires { ticket < 2 ^ 40 }
-    ensures rows { IfOk result (λ answered. answered.rows ≡ mean (union prepared.a.tables prepared.b.tables) prepared.a.root) }
-    ensures dealt { IfOk result (λ answered. answered.dealt.items ≡ dealt_of ticket prepared.units) }
+    ensures rows { IfOk result (λ answered.
+        answered.rows ≡ mean (union prepared.a.tables prepared.b.tables) prepared.a.root) }
+    ensures dealt { IfOk result (λ answered.
+        answered.dealt.items ≡ dealt_of ticket prepared.units) }
     ensures is { IfOk result (IsAnswered prepared (D.tape deal.now) ticket) }
 {
     kept_answer(alloc, &prepared, ticket, deal)

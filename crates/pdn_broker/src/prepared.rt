@@ -29,9 +29,25 @@ impl Model for Prepared {
 
     ghost coded = { Prim.hlevel (codes, tree.the_row.coded) };
 
-    ghost view = { λ p. record { a = p.a; b = p.b; dirs = p.view; units = p.units; columns = p.columns.items; order = p.order.items; own = p.own } };
+    ghost view = { λ p. record {
+      a = p.a;
+      b = p.b;
+      dirs = p.view;
+      units = p.units;
+      columns = p.columns.items;
+      order = p.order.items;
+      own = p.own;
+    } };
 
-    ghost invariant = { λ p. IsPrepared (record { a = p.a; b = p.b; dirs = p.view; units = p.units; columns = p.columns.items; order = p.order.items; own = p.own }) };
+    ghost invariant = { λ p. IsPrepared (record {
+      a = p.a;
+      b = p.b;
+      dirs = p.view;
+      units = p.units;
+      columns = p.columns.items;
+      order = p.order.items;
+      own = p.own;
+    }) };
 }
 
 impl Prepared {

@@ -10,7 +10,15 @@ ghost use Rattle.pdn_site.specs.NetMeaning.{site_dirs};
 ghost use Rattle.pdn_site.specs.RootWords.{root_inputs};
 ghost use Rattle.pdn_broker.specs.declared.preparing.PrepareErr.TheVariants.{Memory};
 ghost use Rattle.pdn_broker.specs.Answering.{top_order};
-ghost use Rattle.pdn_broker.specs.Prepared.{AreEngines, AreTooLarge, IsOf, IsPrepared, IsNotPrepared, IsRefusedAt, compile_refusal};
+ghost use Rattle.pdn_broker.specs.Prepared.{
+  AreEngines,
+  AreTooLarge,
+  IsOf,
+  IsPrepared,
+  IsNotPrepared,
+  IsRefusedAt,
+  compile_refusal,
+};
 ghost use Rattle.pdn_broker.specs.Units.{AreUnits, UnitsStand};
 
 use crate::prepared::Prepared;
@@ -92,7 +100,13 @@ fn engine(
     requires staged { staged.now ≡ segments_of schema.now plan.now.root [] }
     requires count { length tables ≡ length schema.now.tables }
     requires few { All (λ (rows : RowsModel). length rows < 2 ^ 32 - 1) tables }
-    ensures made { IfOk result (λ engine. engine ≡ record { site = site; schema = schema.now; root = plan.now.root; staged = staged.now; tables = tables }) }
+    ensures made { IfOk result (λ engine. engine ≡ record {
+      site = site;
+      schema = schema.now;
+      root = plan.now.root;
+      staged = staged.now;
+      tables = tables;
+    }) }
     ensures is { IfOk result IsEngine }
     ensures refused { IfErr result (IsRefusedAt site schema.now tables) }
 {
@@ -139,7 +153,8 @@ fn root_shares(
 ) -> Result<Shares, Memory>
     requires some { 0 < length units.now }
     requires last { (get_or units.now (length units.now - 1) no_unit).kind ≡ kind.Root }
-    ensures { IfOk result (λ own. own ≡ record { a = root_inputs a.now units.now; b = root_inputs b.now units.now }) }
+    ensures { IfOk result (λ own.
+        own ≡ record { a = root_inputs a.now units.now; b = root_inputs b.now units.now }) }
 {
     let root = units.units.len() as u64 - 1;
     let words_a = a.unit_inputs(alloc, units, root)?;
@@ -179,7 +194,8 @@ fn engines(
     requires count_b { length tables_b ≡ length schema.now.tables }
     requires few_a { All (λ (rows : RowsModel). length rows < 2 ^ 32 - 1) tables_a }
     requires few_b { All (λ (rows : RowsModel). length rows < 2 ^ 32 - 1) tables_b }
-    ensures made { IfOk result (λ engines. AreEngines schema.now plan.now.root tables_a tables_b engines.a engines.b) }
+    ensures made { IfOk result (λ engines.
+        AreEngines schema.now plan.now.root tables_a tables_b engines.a engines.b) }
     ensures refused { IfErr result (IsNotPrepared schema.now plan.now.root tables_a tables_b) }
 {
     let a = engine(alloc, Site::A, schema, plan, staged, tables_a)?;
@@ -200,8 +216,10 @@ fn units_over(
     requires staged { staged.now ≡ segments_of schema.now plan.now.root [] }
     requires a { a.now.staged ≡ staged.now }
     requires b { b.now.staged ≡ staged.now }
-    ensures view { IfOk result (λ made. made.view ≡ site_dirs a.now.tables b.now.tables (segments_of schema.now plan.now.root [])) }
-    ensures units { IfOk result (λ made. AreUnits schema.now a.now.tables b.now.tables plan.now.root made.units) }
+    ensures view { IfOk result (λ made.
+        made.view ≡ site_dirs a.now.tables b.now.tables (segments_of schema.now plan.now.root [])) }
+    ensures units { IfOk result (λ made.
+        AreUnits schema.now a.now.tables b.now.tables plan.now.root made.units) }
     ensures stand { IfOk result (λ made. UnitsStand made.units) }
     ensures large { IfErr result (AreTooLarge schema.now plan.now.root a.now.tables b.now.tables) }
 {
@@ -223,7 +241,10 @@ fn ends_of(
     requires { AreUnits schema.now engines.now.a.tables engines.now.b.tables plan.now.root units.now }
     ensures columns { IfOk result (λ ends. ends.columns.items ≡ kinds schema.now plan.now.root) }
     ensures order { IfOk result (λ ends. ends.order.items ≡ top_order plan.now.root) }
-    ensures own { IfOk result (λ ends. ends.own ≡ record { a = root_inputs engines.now.a units.now; b = root_inputs engines.now.b units.now }) }
+    ensures own { IfOk result (λ ends. ends.own ≡ record {
+      a = root_inputs engines.now.a units.now;
+      b = root_inputs engines.now.b units.now;
+    }) }
 {
     let own = root_shares(alloc, units, &engines.a, &engines.b)?;
     let columns = kinds_of(alloc, schema, &plan.root)?;
@@ -245,7 +266,15 @@ fn look_at_plan(plan: &Plan)
 
 /// All of these together.
 fn together(engines: BothEngines, made: PublicUnits, ends: Ends) -> Prepared
-    requires { IsPrepared (record { a = engines.a; b = engines.b; dirs = made.view; units = made.units; columns = ends.columns.items; order = ends.order.items; own = ends.own }) }
+    requires { IsPrepared (record {
+      a = engines.a;
+      b = engines.b;
+      dirs = made.view;
+      units = made.units;
+      columns = ends.columns.items;
+      order = ends.order.items;
+      own = ends.own;
+    }) }
     ensures a { result.a ≡ engines.a }
     ensures b { result.b ≡ engines.b }
 {

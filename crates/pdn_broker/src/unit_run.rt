@@ -23,7 +23,8 @@ pub fn run_unit<D: Deal>(
     at: Dealt,
 ) -> Result<UnitRun, Memory>
     requires { Takes circuit.now own given }
-    ensures { IfOk result (λ run. run ≡ run_on circuit.now (section_at (D.tape deal.now) at circuit.now) own given) }
+    ensures { IfOk result (λ run.
+        run ≡ run_on circuit.now (section_at (D.tape deal.now) at circuit.now) own given) }
 {
     let section = deal.section(alloc, at.ticket, at.unit, section_len(circuit))?;
     let (part_a, part_b) = section.split(alloc, circuit)?;
