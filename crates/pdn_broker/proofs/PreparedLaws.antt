@@ -1,5 +1,5 @@
 -- The units of a query that is prepared, their runs, and what the root opens.
-use Rattle.std.proofs.Common.{◌≡◌, ℕ, zero, suc, ◌+◌, ◌-◌, ◌<◌, ◌≤◌, Bool, true, false, cond, List, [], ◌∷◌, ◌++◌, length, get_or, map, take, filter, refl, sym, ap, ap₂, ◌∙◌, subst, arith, length-append, append_assoc, append-nil, Option, Some, None}
+use Rattle.std.proofs.Common.{◌≡◌, ℕ, zero, suc, ◌+◌, ◌-◌, ◌<◌, ◌≤◌, Bool, true, false, cond, List, [], ◌∷◌, ◌++◌, length, get_or, map, take, filter, true≢false, refl, sym, ap, ap₂, ◌∙◌, subst, arith, length-append, append_assoc, append-nil, Option, Some, None}
 use Rattle.std.specs.Prelude.{IsSome}
 use Rattle.std.specs.List.{All, flat_map, range_with_len}
 use Rattle.std.proofs.lemmas.List.{get_or_at, map-append, take_more, take_all}
@@ -42,7 +42,7 @@ use Rattle.pdn_broker.specs.Runs.{Both, Shared, Takes, Tape, world, section_at, 
 use Rattle.pdn_broker.specs.Answering.{nothing_given, root_own, root_len, top_order}
 use Rattle.pdn_broker.specs.Units.{AreUnits, UnitsTell, secure_words, secure_own, unit_gives, gives_by, net_or, is_secure, numbers_upto}
 use Rattle.pdn_broker.specs.Prepared.{PreparedModel, IsPrepared}
-use Rattle.pdn_broker.specs.Running.{unit_at, root_number, root_of, engines_own, secure_run, secure_runs, outputs_of, root_run, opened_words, Opens, AnswersMean}
+use Rattle.pdn_broker.specs.Running.{unit_at, root_number, root_of, engines_own, secure_run, secure_runs, outputs_of, root_run, opened_words, opened_list, Opens, AnswersMean}
 use Rattle.pdn_broker.proofs.RunLaws.{dealt_shared, shared_nothing, shared_append}
 use Rattle.pdn_broker.proofs.AnswerLaws.{Answers, opens_plain, answers_from}
 use Rattle.pdn_broker.proofs.UnitLaws.{made, all_made, flat, compiled_tell}
@@ -301,6 +301,12 @@ pub secure_run_is : (p : PreparedModel) (tape : Tape) (at : Dealt) (net : Net) (
 unfolding secure_run
 secure_run_is p tape at net own given run n o g r = r ∙ run_as tape at n o g
 
+-- a unit that tells so is a secure one
+pub secure_kind : (k : UnitKind) → is_secure k ≡ true → k ≡ Secure
+secure_kind (Plain site) e = absurd (true≢false (sym e))
+secure_kind Secure e = refl
+secure_kind Root e = absurd (true≢false (sym e))
+
 -- the root
 last_is : (p : PreparedModel) → IsPrepared p → (count : ℕ) → count ≡ length p.units → count - 1 ≡ root_number p
 last_is p is count e = ap (λ n. n - 1) e
@@ -323,6 +329,30 @@ root_run_is p is tape ticket count unit net own given run e u n o g r =
     let last : count - 1 ≡ root_number p = last_is p is count e in
     r ∙ ap (λ v. run_on net (section_at tape (record { ticket = ticket; unit = v }) net) own given) last
     ∙ run_as tape (record { ticket = ticket; unit = root_number p }) (n ∙ ap (λ (m : UnitModel). net_or m.circuit) (u ∙ ap (unit_at p) last)) o g
+
+pub root_run_opens : (p : PreparedModel) → IsPrepared p → (tape : Tape) (ticket : ℕ) (run : Run) → run ≡ root_run p tape ticket → Opens p run
+root_run_opens p is tape ticket run e = subst (Opens p) (sym e) (root_opens p is tape ticket)
+
+-- ---- what the root opens, in code
+module _ (p : PreparedModel) (run : Run) (opens : Opens p run) (a b : List ℕ) (at_a : a ≡ run.a.outputs) (at_b : b ≡ run.b.outputs) where
+  words_are : xor_lists a b ≡ opened_words run
+  words_are = ap₂ (λ (xs ys : List ℕ). xor_lists xs ys) at_a at_b
+
+  pub opened_same : length b ≡ length a
+  opened_same = ap length at_b ∙ opens.same ∙ sym (ap length at_a)
+
+  module _ (ks : List Kind) (len : ℕ) (is_ks : ks ≡ p.columns) (is_len : len ≡ (root_of p).len) where
+    pub opened_count : length (xor_lists a b) ≡ list_words ks len
+    opened_count = ap length words_are ∙ opens.count ∙ sym (ap₂ list_words is_ks is_len)
+
+    list_is : valid_rows (xor_lists a b) (list_from 0 ks len) ≡ opened_list p run
+    list_is = ap₂ (λ (ws : List ℕ) (columns : List Kind). valid_rows ws (list_from 0 columns len)) words_are is_ks ∙ ap (λ n. valid_rows (opened_words run) (list_from 0 p.columns n)) is_len
+
+    pub opened_kinds : RowsAreOf ks (valid_rows (xor_lists a b) (list_from 0 ks len))
+    opened_kinds = subst (λ (rows : Rows). RowsAreOf ks rows) (sym list_is) (subst (λ (columns : List Kind). RowsAreOf columns (opened_list p run)) (sym is_ks) opens.are)
+
+    pub opened_are : (order : List Key) → order ≡ p.order → listed order (valid_rows (xor_lists a b) (list_from 0 ks len)) ≡ listed p.order (opened_list p run)
+    opened_are order e = ap₂ (λ (keys : List Key) (rows : Rows). listed keys rows) e list_is
 
 pub answers_mean : AnswersMean
 answers_mean p is tape ticket = root_opens p is tape ticket

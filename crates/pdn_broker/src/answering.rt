@@ -22,7 +22,7 @@ use crate::opening::opened_rows;
 use crate::prepared::Prepared;
 use crate::shares::Shares;
 use crate::unit_run::run_unit;
-use crate::units::{circuit_of, is_dealt, is_secure, unit_at};
+use crate::units::{circuit_of, is_dealt, is_secure, room_of, unit_at};
 use pdn_base::{Memory, Rows};
 use pdn_dealer::Deal;
 use pdn_gmw::UnitRun;
@@ -30,7 +30,6 @@ use pdn_site::{Unit, Units};
 use std::alloc::Global;
 
 /// Both sites' words of a secure unit.
-#[tactic(auto, using(crate::proofs::PreparedLaws::placed_a, crate::proofs::PreparedLaws::placed_b))]
 fn secure_own(alloc: Global, prepared: &Prepared, unit: u64) -> Result<Shares, Memory>
     requires in_range { unit < length prepared.now.units }
     requires secure { (unit_at prepared.now unit).kind ≡ kind.Secure }
@@ -123,7 +122,8 @@ fn root_run<D: Deal>(
     deal: &D,
 ) -> Result<UnitRun, Memory>
     requires { given ≡ outputs_of (secure_runs prepared.now (D.tape deal.now) ticket) }
-    ensures { IfOk result (λ run. run ≡ root_run prepared.now (D.tape deal.now) ticket) }
+    ensures run { IfOk result (λ run. run ≡ root_run prepared.now (D.tape deal.now) ticket) }
+    ensures opens { IfOk result (Opens prepared.now) }
 {
     let own = prepared.own.copy(alloc)?;
     let at = Dealt {
@@ -146,7 +146,7 @@ fn rows_of(alloc: Global, prepared: &Prepared, run: &UnitRun) -> Result<Rows, Me
         run.a().outputs(),
         run.b().outputs(),
         prepared.columns.as_slice(),
-        root.len,
+        room_of(root),
         prepared.order.as_slice(),
     )
 }
@@ -184,7 +184,12 @@ fn kept_answer<D: Deal>(
     ticket: u64,
     deal: &D,
 ) -> Result<Answered, Memory>
-    ensures { IfOk result (IsAnswered prepared.now (D.tape deal.now) ticket) }
+    ensures rows { IfOk result (λ answered.
+        answered.rows
+        ≡ mean (union prepared.now.a.tables prepared.now.b.tables) prepared.now.a.root) }
+    ensures dealt { IfOk result (λ answered.
+        answered.dealt.items ≡ dealt_of ticket prepared.now.units) }
+    ensures is { IfOk result (IsAnswered prepared.now (D.tape deal.now) ticket) }
 {
     let mut runs = secure_runs(alloc, prepared, ticket, deal)?;
     let given = outputs_of(alloc, runs.as_slice())?;

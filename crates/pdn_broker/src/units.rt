@@ -25,6 +25,13 @@ pub(crate) fn circuit_of(unit: &Unit) -> &Circuit
     }
 }
 
+/// For how many rows the unit's last list has room.
+pub(crate) fn room_of(unit: &Unit) -> u32
+    ensures { result ≡ unit.now.len }
+{
+    unit.len
+}
+
 pub(crate) fn is_secure(unit: &Unit) -> bool
     ensures { result ≡ is_secure unit.now.kind }
 {

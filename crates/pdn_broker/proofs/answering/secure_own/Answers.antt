@@ -1,0 +1,22 @@
+use Rattle.std.proofs.Common.{◌≡◌, ◌<◌, length, sym, subst}
+use Rattle.pdn_site.specs.declared.unit.UnitKind.TheVariants.{Secure}
+use Rattle.pdn_broker.specs.Prepared.{PreparedModel}
+use Rattle.pdn_broker.specs.Running.{unit_at}
+use Rattle.pdn_broker.proofs.PreparedLaws.{placed_a, placed_b}
+use Rattle.pdn_broker.proofs.answering.secure_own.Goals as goal
+
+pub secure_inputs-requires-clause-in_range : goal.secure_inputs-requires-clause-in_range
+secure_inputs-requires-clause-in_range c = subst (λ (p : PreparedModel). c.args.unit < length p.units) (sym c.prepared.view_is) c.requires.in_range
+
+pub secure_inputs-requires-clause-of_segment : goal.secure_inputs-requires-clause-of_segment
+secure_inputs-requires-clause-of_segment c =
+    placed_a _ c.prepared.invariant c.args.unit (subst (λ (p : PreparedModel). c.args.unit < length p.units) (sym c.prepared.view_is) c.requires.in_range)
+    (subst (λ (p : PreparedModel). (unit_at p c.args.unit).kind ≡ Secure) (sym c.prepared.view_is) c.requires.secure)
+
+pub secure_inputs-requires-2-clause-in_range : goal.secure_inputs-requires-2-clause-in_range
+secure_inputs-requires-2-clause-in_range c = subst (λ (p : PreparedModel). c.args.unit < length p.units) (sym c.prepared.view_is) c.requires.in_range
+
+pub secure_inputs-requires-2-clause-of_segment : goal.secure_inputs-requires-2-clause-of_segment
+secure_inputs-requires-2-clause-of_segment c =
+    placed_b _ c.prepared.invariant c.args.unit (subst (λ (p : PreparedModel). c.args.unit < length p.units) (sym c.prepared.view_is) c.requires.in_range)
+    (subst (λ (p : PreparedModel). (unit_at p c.args.unit).kind ≡ Secure) (sym c.prepared.view_is) c.requires.secure)
