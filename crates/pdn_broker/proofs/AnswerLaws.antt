@@ -3,9 +3,9 @@ use Rattle.std.proofs.Common.{◌≡◌, ℕ, ◌≤◌, true, List, sym, ap, su
 use Rattle.pdn_base.specs.Operators.{Rows, listed}
 use Rattle.pdn_schema.specs.Models.{SchemaModel}
 use Rattle.pdn_schema.specs.Rows.{union}
-use Rattle.pdn_plan.specs.declared.node.Node.{Node}
-use Rattle.pdn_plan.specs.Meaning.{mean}
-use Rattle.pdn_plan.specs.Shapes.{kinds, shape, is_top}
+use Rattle.pdn_tree.specs.declared.node.Node.{Node}
+use Rattle.pdn_tree.specs.Meaning.{mean}
+use Rattle.pdn_tree.specs.Shapes.{kinds, shape, is_top}
 use Rattle.pdn_circuit.specs.Gates.{InOrder, output_words}
 use Rattle.pdn_obl_rows.specs.Lists.{valid_rows}
 use Rattle.pdn_obl_rows.specs.Encoding.{list_from}

@@ -9,8 +9,8 @@ use Rattle.pdn_base.specs.declared.site.Site.TheVariants.{A, B}
 use Rattle.pdn_base.specs.Operators.{Rows}
 use Rattle.pdn_schema.specs.Models.{SchemaModel}
 use Rattle.pdn_schema.specs.Rows.{AreValid}
-use Rattle.pdn_plan.specs.declared.node.Node.{Node}
-use Rattle.pdn_plan.specs.Shapes.{kinds, shape, is_top}
+use Rattle.pdn_tree.specs.declared.node.Node.{Node}
+use Rattle.pdn_tree.specs.Shapes.{kinds, shape, is_top}
 use Rattle.pdn_circuit.specs.declared.gate.Gate.{Gate}
 use Rattle.pdn_circuit.specs.Building.{first_over, and_count}
 use Rattle.pdn_level.specs.Models.{SegmentModel}

@@ -7,8 +7,8 @@ use Rattle.pdn_base.specs.declared.site.Site.TheVariants.{A, B}
 use Rattle.pdn_base.specs.Operators.{Rows}
 use Rattle.pdn_schema.specs.Models.{SchemaModel}
 use Rattle.pdn_schema.specs.Rows.{AreValid}
-use Rattle.pdn_plan.specs.declared.node.Node.{Node}
-use Rattle.pdn_plan.specs.Shapes.{kinds, shape, is_top}
+use Rattle.pdn_tree.specs.declared.node.Node.{Node}
+use Rattle.pdn_tree.specs.Shapes.{kinds, shape, is_top}
 use Rattle.pdn_level.specs.Levels.{segments_of}
 use Rattle.pdn_site.specs.declared.unit.CompileErr.{CompileErr}
 use Rattle.pdn_site.specs.declared.unit.CompileErr.TheVariants as unit

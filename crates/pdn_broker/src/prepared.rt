@@ -22,7 +22,7 @@ pub struct Prepared {
 
 impl Model for Prepared {
     ghost use Rattle.pdn_broker.specs.Prepared.{PreparedModel, IsPrepared};
-    ghost use Rattle.pdn_plan.specs.contracts.node.Node as tree;
+    ghost use Rattle.pdn_tree.specs.contracts.node.Node as tree;
     ghost use Rattle.std.specs.Coded.{codes};
 
     ghost Value = { PreparedModel };

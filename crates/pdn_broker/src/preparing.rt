@@ -2,7 +2,7 @@
 ghost use Rattle.std.specs.Prelude.{◌≡◌, ◌<◌, ◌-◌, ◌^◌, true, length, get_or, [], IfOk, IfErr};
 ghost use Rattle.std.specs.List.{All};
 ghost use Rattle.pdn_base.specs.Operators.{Rows as RowsModel};
-ghost use Rattle.pdn_plan.specs.Shapes.{is_top, kinds, shape};
+ghost use Rattle.pdn_tree.specs.Shapes.{is_top, kinds, shape};
 ghost use Rattle.pdn_level.specs.Levels.{segments_of};
 ghost use Rattle.pdn_site.specs.declared.unit.UnitKind.TheVariants as kind;
 ghost use Rattle.pdn_site.specs.Engines.{IsEngine, no_unit};
@@ -26,9 +26,9 @@ use crate::shares::Shares;
 use crate::units::look_at_units;
 use pdn_base::{Key, Kind, Memory, RowsErr, Site, Tables};
 use pdn_level::{Staged, levels};
-use pdn_plan::{Node, Plan};
 use pdn_schema::Schema;
 use pdn_site::{CompileErr, PublicView, SegDirs, SiteEngine, SiteErr, Units, compile, kinds_of};
+use pdn_tree::{Node, Plan};
 use std::alloc::Global;
 
 /// Why a query is not prepared: the first table of A, else of B, in the order of the schema, whose rows aren't valid, and why; else
