@@ -14,9 +14,9 @@ use Rattle.pdn_base.specs.Words.{xor_lists}
 use Rattle.pdn_base.proofs.WordLists.{length-xor_lists}
 use Rattle.pdn_schema.specs.Models.{SchemaModel}
 use Rattle.pdn_schema.specs.Rows.{union}
-use Rattle.pdn_plan.specs.declared.node.Node.{Node}
-use Rattle.pdn_plan.specs.Meaning.{mean}
-use Rattle.pdn_plan.specs.Shapes.{kinds}
+use Rattle.pdn_tree.specs.declared.node.Node.{Node}
+use Rattle.pdn_tree.specs.Meaning.{mean}
+use Rattle.pdn_tree.specs.Shapes.{kinds}
 use Rattle.pdn_circuit.specs.Gates.{Net, HasCounts, given_count, output_words}
 use Rattle.pdn_obl_rows.specs.Lists.{valid_rows}
 use Rattle.pdn_obl_rows.specs.Encoding.{RowsAreOf, list_from}

@@ -4,8 +4,8 @@ use Rattle.pdn_base.specs.declared.order.Key.{Key}
 use Rattle.pdn_base.specs.declared.site.Site.TheVariants.{A, B}
 use Rattle.pdn_base.specs.Operators.{Rows}
 use Rattle.pdn_schema.specs.Models.{SchemaModel}
-use Rattle.pdn_plan.specs.declared.node.Node.{Node, out-Node}
-use Rattle.pdn_plan.specs.declared.node.Node.TheOpen.{Node-F}
+use Rattle.pdn_tree.specs.declared.node.Node.{Node, out-Node}
+use Rattle.pdn_tree.specs.declared.node.Node.TheOpen.{Node-F}
 use Rattle.pdn_site.specs.SiteRows.{root_words}
 use Rattle.pdn_site.specs.Compiling.{root_sizes}
 use Rattle.pdn_site.specs.RootMeaning.{parts_of_slices}

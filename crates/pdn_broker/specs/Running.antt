@@ -4,7 +4,7 @@ use Rattle.std.specs.List.{flat_map}
 use Rattle.pdn_base.specs.Operators.{Rows, listed}
 use Rattle.pdn_base.specs.Words.{xor_lists}
 use Rattle.pdn_schema.specs.Rows.{union}
-use Rattle.pdn_plan.specs.Meaning.{mean}
+use Rattle.pdn_tree.specs.Meaning.{mean}
 use Rattle.pdn_obl_rows.specs.Lists.{valid_rows}
 use Rattle.pdn_obl_rows.specs.Encoding.{RowsAreOf, list_from}
 use Rattle.pdn_gmw.specs.Pairs.{Run}

@@ -2,7 +2,7 @@
 ghost use Rattle.std.specs.Prelude.{◌≡◌, ◌<◌, ◌^◌, ◌++◌, [], ◌∷◌, length, cond, IfOk, OnOk};
 ghost use Rattle.pdn_base.specs.Operators.{listed};
 ghost use Rattle.pdn_schema.specs.Rows.{union};
-ghost use Rattle.pdn_plan.specs.Meaning.{mean};
+ghost use Rattle.pdn_tree.specs.Meaning.{mean};
 ghost use Rattle.pdn_site.specs.declared.unit.UnitKind.TheVariants as kind;
 ghost use Rattle.pdn_broker.specs.Units.{is_dealt, is_secure, dealt_of};
 ghost use Rattle.pdn_broker.specs.Running.{
