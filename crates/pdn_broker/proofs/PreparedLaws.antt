@@ -134,7 +134,7 @@ shares_more give units k given more h s t =
     subst (Shared (given.a ++ more.a) (given.b ++ more.b)) words (shared_append s t)
 
 -- ---- the outputs of runs
-both_are : {a b c d : List ℕ} → a ≡ c → b ≡ d → ◌≡◌ {A = Both} (record { a = a; b = b }) (record { a = c; b = d })
+pub both_are : {a b c d : List ℕ} → a ≡ c → b ≡ d → ◌≡◌ {A = Both} (record { a = a; b = b }) (record { a = c; b = d })
 both_are e f = ap₂ (λ (xs ys : List ℕ). record { a = xs; b = ys }) e f
 
 outputs_append : (runs more : List Run) → outputs_of (runs ++ more) ≡ record { a = (outputs_of runs).a ++ (outputs_of more).a; b = (outputs_of runs).b ++ (outputs_of more).b }

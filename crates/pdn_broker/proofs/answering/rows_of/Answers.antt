@@ -7,8 +7,8 @@ use Rattle.pdn_broker.specs.Running.{unit_at}
 use Rattle.pdn_broker.proofs.PreparedLaws.{some_units, root_in_range, opened_same, opened_count, opened_kinds, opened_are}
 use Rattle.pdn_broker.proofs.answering.rows_of.Goals as goal
 
-pub overflow_sub-at : goal.overflow_sub-at
-overflow_sub-at c = omega (arith, c.units.ensures.count, some_units _ c.units.ensures.kept)
+pub overflow_sub-units : goal.overflow_sub-units
+overflow_sub-units c = omega (arith, c.units.ensures.count, some_units _ c.units.ensures.kept)
 
 pub unit_at-root-requires : goal.unit_at-root-requires
 unit_at-root-requires c = root_in_range _ c.prepared.invariant _ (c.units.ensures.count ∙ ap (λ (p : PreparedModel). length p.units) (sym c.prepared.view_is))
