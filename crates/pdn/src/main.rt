@@ -1,22 +1,8 @@
 //! The program of a private data network of two sites.
 #![tactic(auto)]
 
-mod answer;
-mod answer_text;
-mod bound;
-mod check;
-mod command;
-mod imports;
-mod inputs;
-mod load;
-mod run;
-mod stop;
-mod tables;
-mod top;
-
-use hex::FromHex;
-use imports::{ImportErr, import_tables, schema_there};
 use pdn_base::{Files, RealFiles, Sink, Site, Status, StdSink};
+use pdn_commands::{ImportErr, dealer_of, import_tables, pdn, schema_there};
 use pdn_dealer::ChaChaDeal;
 use pdn_keeper::MemSite;
 use std::alloc::Global;
@@ -24,7 +10,6 @@ use std::io::ErrorKind;
 use std::process::ExitCode;
 use std::rt::Env;
 use std::{env, io};
-use top::pdn;
 
 const HELP: &str = "\
 pdn run <sqlfile> <workers>                      answers the queries of the file over the rows of both sites
@@ -57,7 +42,7 @@ fn main(rt: HostRuntime) -> ExitCode {
         };
     }
     let mut files = RealFiles::new(&rt);
-    let Some(key) = read_key(alloc, &mut files) else {
+    let Some(deal) = dealer_there(alloc, &mut files) else {
         // Where this put fails, there is nothing left to say.
         let _put = put_fault(alloc, &mut out, "tape.key");
         return ExitCode::FAILURE;
@@ -71,7 +56,6 @@ fn main(rt: HostRuntime) -> ExitCode {
             return ExitCode::FAILURE;
         }
     }
-    let deal = ChaChaDeal::new(key);
     let status = pdn(
         alloc,
         &words,
@@ -118,19 +102,10 @@ fn words(rt: &(impl Env + AllocGlobal)) -> io::Result<Vec<String>> {
     Ok(words)
 }
 
-// The key of the tape, where the file `tape.key` is 64 hexadecimal digits and at most one line feed.
-fn read_key(alloc: Global, files: &mut impl Files) -> Option<[u8; 32]> {
+// The dealer of the key in the file `tape.key`.
+fn dealer_there(alloc: Global, files: &mut impl Files) -> Option<ChaChaDeal> {
     let text = files.read(alloc, "tape.key").ok()?;
-    key_of(text.as_slice())
-}
-
-/// The key that a text spells.
-pub(crate) fn key_of(text: &[u8]) -> Option<[u8; 32]> {
-    let digits = match text.strip_suffix(b"\n") {
-        Some(line) => line,
-        None => text,
-    };
-    <[u8; 32] as FromHex>::from_hex(digits).ok()
+    dealer_of(&text)
 }
 
 // What the program says of itself.

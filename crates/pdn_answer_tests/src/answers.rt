@@ -1,7 +1,7 @@
 //! A unit's run, worked out by hand.
-use crate::{Dealt, Shares, run_unit};
 use pdn_base::{Site, Word};
-use pdn_circuit::{Builder, Circuit};
+use pdn_broker::{Dealt, Shares, run_unit};
+use pdn_circuit::Builder;
 use pdn_dealer::ListDeal;
 use std::alloc::Global;
 use std::test::Fail;
@@ -18,24 +18,18 @@ fn first(words: &[Word]) -> u64 {
     }
 }
 
-// One And gate of a word of A and a word of B.
-fn one_and(alloc: Global) -> Result<Circuit, Fail> {
-    let mut builder = Builder::new(alloc, 1, 10)?;
-    let x = builder.input(Site::A)?;
-    let y = builder.input(Site::B)?;
-    let z = builder.and(x, y)?;
-    let mut outputs = Vec::new(alloc);
-    outputs.push(z)?;
-    Ok(builder.finish(outputs, true))
-}
-
 // r of both inputs, then a0, a1, b0, b1, c0, then the mask.
 const SECTION: [u64; 8] = [0x0f, 0x33, 0x55, 0x0f, 0x33, 0xff, 0xaa, 0x01];
 
 #[test]
 fn two_halves_put_out_shares_of_an_and_by_hand(rt: HostRuntime) -> Result<(), Fail> {
     let alloc = rt.alloc();
-    let circuit = one_and(alloc)?;
+    // one And gate of a word of A and a word of B
+    let mut builder = Builder::new(alloc, 1, 10)?;
+    let x = builder.input(Site::A)?;
+    let y = builder.input(Site::B)?;
+    let z = builder.and(x, y)?;
+    let circuit = builder.finish(vec![in alloc; z]?, true);
     let mut entries = Vec::new(alloc);
     entries.push((7, 2, words(alloc, &SECTION)?))?;
     let own = Shares {

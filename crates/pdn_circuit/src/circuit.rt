@@ -1,6 +1,5 @@
 //! A circuit, and the words that it is evaluated on.
 ghost use Rattle.std.specs.Prelude.{◌≡◌, IfOk};
-
 ghost use Rattle.pdn_circuit.specs.Gates.{is_input_of, input_count, given_count};
 
 use crate::Gate;

@@ -37,7 +37,12 @@ impl Run {
             _ => return None,
         };
         let (a, b) = (a as usize, b as usize);
-        let len = run_length(&circuit.gates[at..], joint, (a, b), at.saturating_sub(a.max(b)));
+        let len = run_length(
+            &circuit.gates[at..],
+            joint,
+            (a, b),
+            at.saturating_sub(a.max(b)),
+        );
         if len < LEAST {
             None
         } else {

@@ -1,0 +1,1 @@
+SELECT DISTINCT pid FROM diag WHERE day >= 30 AND (code = 'flu' OR day < 60) ORDER BY pid;

@@ -1,0 +1,1 @@
+SELECT COUNT(*) AS n FROM t WHERE c = 5;

@@ -1,0 +1,1 @@
+SELECT code FROM diag;SELECT COUNT(*) FROM t WHERE c = 5;

@@ -1,0 +1,1 @@
+SELECT COUNT(*) FROM diag; SELECT pid FROM diag ORDER BY day; SELECT COUNT(*) FROM t;

@@ -1,0 +1,1 @@
+SELECT y, COUNT(*) AS n FROM wide WHERE x >= 10 GROUP BY y;

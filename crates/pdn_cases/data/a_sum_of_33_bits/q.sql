@@ -1,0 +1,1 @@
+SELECT a.pid FROM diag a JOIN diag b ON a.pid = b.pid AND b.day <= a.day + 4294967295;

@@ -1,0 +1,1 @@
+SELECT DISTINCT a.pid, b.pid, a.pid, b.pid, a.pid, b.pid, a.pid, b.pid, a.pid, b.pid, a.pid, b.pid, a.pid, b.pid, a.pid, b.pid FROM diag a JOIN diag b ON a.code = b.code;

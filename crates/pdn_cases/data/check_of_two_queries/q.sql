@@ -1,0 +1,1 @@
+SELECT DISTINCT pid FROM diag; SELECT COUNT(*) FROM diag;

@@ -1,0 +1,1 @@
+SELECT e1, e2, e3, e4, e5, e6, e7, e8, f1, f2, f5, f6, g1, g2, g5, g8 FROM e JOIN f ON e1 = f1 AND e5 = f5 JOIN g ON f1 = g1 AND f2 = g2 AND e8 = g8;

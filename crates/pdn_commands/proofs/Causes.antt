@@ -1,0 +1,321 @@
+-- The causes of a command's statuses, and what Done comes with.
+use Rattle.std.proofs.Common.{◌≡◌, ℕ, zero, suc, ◌+◌, ◌<◌, ◌++◌, List, [], ◌∷◌, length, take, get_or, arith, None, Some, Option, Result, Ok, Err, inl, inr, ◌⊎◌, refl, sym, subst, ap, ◌∙◌, append-nil, append_assoc}
+use Rattle.std.specs.Prelude.{Bool, true, false, codes}
+use Rattle.std.specs.List.{AllByRecursion}
+use Rattle.pdn_base.specs.declared.rows_err.RowsErr.{RowsErr}
+use Rattle.pdn_base.specs.declared.site.Site.{Site}
+use Rattle.pdn_base.specs.declared.site.Site.TheVariants.{A, B}
+use Rattle.pdn_base.specs.declared.status.Status.{Status}
+use Rattle.pdn_base.specs.declared.status.Status.TheVariants as status
+use Rattle.pdn_base.specs.declared.status.Who.{Who}
+use Rattle.pdn_base.specs.declared.value.Value.{Value}
+use Rattle.pdn_schema.specs.Models.{SchemaModel, TableModel, table_of, no_table}
+use Rattle.pdn_schema.specs.Rows.{IsValid, IsRefused, union}
+use Rattle.pdn_sql.specs.declared.query.Query.{Query}
+use Rattle.pdn_base.specs.Operators.{Rows}
+use Rattle.pdn_plan.specs.Answer.{answer}
+use Rattle.pdn_tree.specs.Plans.{PlanModel}
+use Rattle.pdn_tree.specs.declared.node.Node.{Node}
+use Rattle.pdn_site.specs.Models.{UnitModel}
+use Rattle.pdn_site.specs.Compiling.{Compiled}
+use Rattle.pdn_schema.specs.Printing.{text_of}
+use Rattle.pdn_commands.specs.Checking.{reporting, query_report, AreReported}
+use Rattle.pdn_commands.specs.Causes.{AskedRun, AskedQueries, AskedCheck, AskedReports, AskedLoad, AskedTable, IsReached, IsAsked, IsFirstWrong, AreWrong, Cause, IsLoaded, IsDone, file_of}
+use Rattle.pdn_commands.specs.Commands.{Task, Run, Check, Load, task_of, task_script, script}
+use Rattle.pdn_commands.specs.Answering.{scans, asking_if, asking, or_wrong, judging, units_over, or_large, answer_text, said, planned_script, queries_script, KeepsIf, KeepsAll, AllValid, IsTaken, IsAnswer, AreAnswers}
+use Rattle.pdn_commands.specs.Questions.{Told, Unbound, Broken, Hidden, IsBound, Holds, Valid, IsWrong, kept_at, IsSchemaIn, AreQueriesIn, AreRowsIn, Answer, New, Again, Differs, OverRows, OverPer, Batch, Gives, after}
+use Rattle.pdn_commands.specs.Script.{Script, Finish, Refuse, Say, Ask, found, with_inputs, or_fault, or_unbound, answered, load_table, table_number}
+use Rattle.pdn_commands.specs.Stops.{Inputs}
+use Rattle.pdn_commands.specs.Walk.{Refusals, Texts, Follows}
+use Rattle.pdn_commands.proofs.Ends.{IsPlain, status_has, done_text}
+
+-- ---- what holds of each refusal of a command's inputs
+module _ (told : Told) (P : Status → Type 0) where
+  in_found : (name : List ℕ) (next : List ℕ → Script) (content : Option (List ℕ)) → Holds told.files name content → (Holds told.files name None → P (status.NoFile name)) →
+      ((bytes : List ℕ) → Holds told.files name (Some bytes) → Refusals told P (next bytes)) → Refusals told P (found name next content)
+  in_found name next None h absent more = absent h
+  in_found name next (Some bytes) h absent more = more bytes h
+
+  in_read : {X : Type 0} (fault : ℕ → ℕ → Status) (next : X → Script) (is : Result X (ℕ × ℕ) → Type 0) (read : Result X (ℕ × ℕ)) → is read → ((at cause : ℕ) → is (Err (at, cause)) → P (fault at cause)) →
+      ((x : X) → is (Ok x) → Refusals told P (next x)) → Refusals told P (or_fault fault next read)
+  in_read fault next is (Ok x) h faults more = more x h
+  in_read fault next is (Err at) h faults more = faults at.0 at.1 h
+
+  in_inputs : (name : List ℕ) (next : SchemaModel → List ℕ → Script) → ((file : List ℕ) → (file ≡ codes "net.schema") ⊎ (file ≡ name) → Holds told.files file None → P (status.NoFile file)) →
+      ((net text : List ℕ) → Holds told.files (codes "net.schema") (Some net) → Holds told.files name (Some text) → (line cause : ℕ) → IsSchemaIn net (Err (line, cause)) → P (status.Schema line cause)) →
+      ((s : SchemaModel) (text : List ℕ) → Inputs told.files name s text → Refusals told P (next s text)) → Refusals told P (with_inputs name next)
+  in_inputs name next absent faults more = λ n hn. in_found (codes "net.schema") _ n hn (absent _ (inl refl)) (λ net held_net.
+      λ x hx. in_found name _ x hx (absent _ (inr refl)) (λ text held_text.
+      λ read is. in_read status.Schema (λ s. next s text) (IsSchemaIn net) read is (faults net text held_net held_text)
+      (λ s says. more s text (record { net = net; net_held = held_net; text_held = held_text; says = says }))))
+
+-- ---- the rows of a query's tables
+module _ (told : Told) (P : Status → Type 0) where
+  in_asked_if : (site : Site) (b : Bool) (t : TableModel) (next : Rows → Script) → ((rows : Rows) → KeepsIf b (kept_at told site) t.name rows → Refusals told P (next rows)) → Refusals told P (asking_if b site t next)
+  in_asked_if site true t next more = more
+  in_asked_if site false t next more = more [] refl
+
+  in_asked : (site : Site) (root : Node) (at : ℕ) (ts : List TableModel) (next : List Rows → Script) → ((tables : List Rows) → KeepsAll (kept_at told site) root at ts tables → Refusals told P (next tables)) →
+      Refusals told P (asking site root at ts next)
+  in_asked site root at [] next more = more [] refl
+  in_asked site root at (t ∷ ts) next more = in_asked_if site (scans at root) t _ (λ rows h. in_asked site root (at + 1) ts (λ later. next (rows ∷ later)) (λ later hs. more (rows ∷ later) (h, hs)))
+
+  -- what holds where this is the first table whose rows are wrong, the k-th of these
+  abbrev WrongAfter : Site → ℕ → List TableModel → List Rows → Type 0
+  WrongAfter site at ts tables = (k place : ℕ) (wrong : RowsErr) → place ≡ at + k → AllValid (take k ts) tables → k < length ts → IsRefused (get_or ts k no_table) (get_or tables k []) wrong → P (status.BadRows site place wrong)
+
+  in_wrong : (site : Site) (at : ℕ) (t : TableModel) (rows : Rows) (next : Script) (wrong : Option RowsErr) → IsWrong t rows wrong → ((e : RowsErr) → IsRefused t rows e → P (status.BadRows site at e)) →
+      (IsValid t rows → Refusals told P next) → Refusals told P (or_wrong site at t next wrong)
+  in_wrong site at t rows next None valid faults more = more valid
+  in_wrong site at t rows next (Some e) is faults more = faults e is
+
+  in_judged : (site : Site) (at : ℕ) (ts : List TableModel) (tables : List Rows) (next : Script) → WrongAfter site at ts tables → (AllValid ts tables → Refusals told P next) → Refusals told P (judging site at ts tables next)
+  in_judged site at [] tables next faults more = more tt
+  in_judged site at (t ∷ ts) [] next faults more = more tt
+  in_judged site at (t ∷ ts) (rows ∷ tables) next faults more = λ wrong is. in_wrong site at t rows _ wrong is (λ e refused. faults 0 at e (omega arith) tt (omega arith) refused)
+      (λ valid. in_judged site (at + 1) ts tables next (λ k place e same before l refused. faults (suc k) place e (omega (arith, same)) (valid, before) (omega (arith, l)) refused) (λ later. more (valid, later)))
+
+  in_large : (next : Script) (compiled : Compiled) → ((limit unit : ℕ) → compiled ≡ Err (limit, unit) → P (status.TooLarge limit unit)) → ((units : List UnitModel) → compiled ≡ Ok units → Refusals told P next) →
+      Refusals told P (or_large next compiled)
+  in_large next (Ok units) faults more = more units refl
+  in_large next (Err passed) faults more = faults passed.0 passed.1 refl
+
+from_first : (k place : ℕ) → place ≡ 0 + k → k ≡ place
+from_first k place e = omega (arith, e)
+
+refusals_map : (P Q : Status → Type 0) → ((refused : Status) → P refused → Q refused) → (told : Told) (script : Script) → Refusals told P script → Refusals told Q script
+refusals_map P Q f told Finish r = tt
+refusals_map P Q f told (Refuse refused line) r = f refused r
+refusals_map P Q f told (Say text rest) r = refusals_map P Q f told rest r
+refusals_map P Q f told (Ask question next) r = λ reply gives. refusals_map P Q f (after told question reply) (next reply) (r reply gives)
+
+all_more : (P : Query → Type 0) (before : List Query) (query : Query) → AllByRecursion P before → P query → AllByRecursion P (before ++ query ∷ [])
+all_more P [] query taken is = (is, tt)
+all_more P (q ∷ before) query taken is = (taken.0, all_more P before query taken.1 is)
+
+-- why a refusal has a status: Done and Memory have none
+abbrev Refused : (Who → Type 0) → Told → List (List ℕ) → Status → Type 0
+Refused rose told words status.Done = ⊥
+Refused rose told words status.Memory = ⊥
+Refused rose told words other = Cause rose told words other
+
+-- ---- each refusal has its cause
+module _ (rose : Who → Type 0) (told : Told) (words : List (List ℕ)) where
+  abbrev Caused : Script → Type 0
+  Caused script = Refusals told (Refused rose told words) script
+
+  wrong_caused : (asked : IsAsked told words) (site : Site) (at : ℕ) (e : RowsErr) → AreWrong asked.all.run.s asked.a asked.b site at e → Refused rose told words (status.BadRows site at e)
+  wrong_caused asked site at e are = record { asked = asked; are = are }
+
+  planned_caused : (all : AskedQueries told words) (ticket : ℕ) (query : Query) (next : Script) → IsReached told all.run.s all.queries query → (plan : PlanModel) → IsBound all.run.s query (Ok plan) →
+      (IsTaken told.a told.b all.run.s query → Caused next) → Caused (planned_script all.run.s ticket query next plan)
+  planned_caused all ticket query next reached plan binds more =
+      in_asked told (Refused rose told words) A plan.root 0 all.run.s.tables _ (λ a ha. in_asked told (Refused rose told words) B plan.root 0 all.run.s.tables _ (λ b hb.
+      let asked : IsAsked told words = record { all = all; query = query; reached = reached; plan = plan; binds = binds; a = a; b = b; held_a = ha; held_b = hb } in
+      in_judged told (Refused rose told words) A 0 all.run.s.tables a _ (λ k place e same before l refused. wrong_caused asked A place e (subst (λ (n : ℕ). AreWrong all.run.s a b A n e) (from_first k place same) (record { before = before; within = l; here = refused }))) (λ va.
+      in_judged told (Refused rose told words) B 0 all.run.s.tables b _ (λ k place e same before l refused. wrong_caused asked B place e (subst (λ (n : ℕ). AreWrong all.run.s a b B n e) (from_first k place same) (va, record { before = before; within = l; here = refused }))) (λ vb.
+      in_large told (Refused rose told words) _ (units_over all.run.s plan.root a b) (λ limit unit passes. record { asked = asked; valid_a = va; valid_b = vb; passes = passes })
+      (λ units fits. more (record { plan = plan; binds = binds; a = a; b = b; held_a = ha; held_b = hb; valid_a = va; valid_b = vb; units = units; fits = fits }))))))
+
+  -- a query's plan is asked for first
+  bound_caused : (all : AskedQueries told words) (query : Query) → IsReached told all.run.s all.queries query → (next : PlanModel → Script) → ((bound : PlanModel) → IsBound all.run.s query (Ok bound) → Caused (next bound)) →
+      (reply : Result PlanModel Unbound) → IsBound all.run.s query reply → Caused (or_unbound next reply)
+  bound_caused all query reached next more (Ok bound) binds = more bound binds
+  bound_caused all query reached next more (Err (Broken kind name)) is = inl (inl (record { all = all; query = query; reached = reached; is = is }))
+  bound_caused all query reached next more (Err (Hidden column label)) is = inl (record { all = all; query = query; reached = reached; is = is })
+
+  queries_caused : (all : AskedQueries told words) (ticket : ℕ) (before queries : List Query) → all.queries ≡ before ++ queries →
+      AllByRecursion (IsTaken told.a told.b all.run.s) before → Caused (queries_script all.run.s ticket queries)
+  queries_caused all ticket before [] e taken = tt
+  queries_caused all ticket before (query ∷ queries) e taken = let reached : IsReached told all.run.s all.queries query = record { before = before; later = queries; stands = e; taken = taken } in
+      bound_caused all query reached _ (λ plan binds. planned_caused all ticket query _ reached plan binds
+      (λ is. queries_caused all (ticket + 1) (before ++ query ∷ []) queries (e ∙ sym (append_assoc before (query ∷ []) queries)) (all_more (IsTaken told.a told.b all.run.s) before query taken is)))
+
+  answered_caused : (table : AskedTable told words) (rows : List (List Value)) → AreRowsIn (table_of table.load.s table.at) table.load.csv (Ok rows) → (answer : Answer) →
+      Gives told (Batch table.load.site (table_of table.load.s table.at) table.load.number rows) answer →
+      Refusals (after told (Batch table.load.site (table_of table.load.s table.at) table.load.number rows) answer) (Refused rose told words) (answered (table_of table.load.s table.at) table.load.number (length rows) answer)
+  answered_caused table rows are New says = tt
+  answered_caused table rows are Again says = tt
+  answered_caused table rows are (Differs at) says = record { table = table; rows = rows; are = are; says = says }
+  answered_caused table rows are OverRows says = record { table = table; rows = rows; are = are; says = says }
+  answered_caused table rows are (OverPer column) says = record { table = table; rows = rows; are = are; says = says }
+
+  load_caused : (load : AskedLoad told words) (at : Option ℕ) → table_number load.table load.s ≡ at → Caused (load_table load.site load.table load.number load.s load.csv at)
+  load_caused load None e = inr (refl, load, refl, e)
+  load_caused load (Some at) e = let table : AskedTable told words = record { load = load; at = at; is = e } in λ read is. in_read told (Refused rose told words) status.Csv _ (AreRowsIn (table_of load.s at) load.csv) read is
+      (λ entry cause are. (table, are)) (λ rows are answer says. answered_caused table rows are answer says)
+
+  -- a query of a check
+  unreported : (all : AskedReports told words) (before : List Query) (query : Query) (later : List Query) → all.queries ≡ before ++ query ∷ later →
+      AllByRecursion (λ q. (plan : PlanModel) × IsBound all.check.s q (Ok plan)) before → (next : PlanModel → Script) → ((plan : PlanModel) → IsBound all.check.s query (Ok plan) → Caused (next plan)) →
+      (reply : Result PlanModel Unbound) → IsBound all.check.s query reply → Caused (or_unbound next reply)
+  unreported all before query later stands bound next more (Ok plan) binds = more plan binds
+  unreported all before query later stands bound next more (Err (Broken kind name)) is =
+      inl (inr (record { all = all; before = before; query = query; later = later; stands = stands; bound = bound; is = is }))
+  unreported all before query later stands bound next more (Err (Hidden column label)) is =
+      inr (record { all = all; before = before; query = query; later = later; stands = stands; bound = bound; is = is })
+
+  all_bound : (s : SchemaModel) (before : List Query) (query : Query) → AllByRecursion (λ q. (plan : PlanModel) × IsBound s q (Ok plan)) before → (plan : PlanModel) × IsBound s query (Ok plan) →
+      AllByRecursion (λ q. (plan : PlanModel) × IsBound s q (Ok plan)) (before ++ query ∷ [])
+  all_bound s [] query bound is = (is, tt)
+  all_bound s (q ∷ before) query bound is = (bound.0, all_bound s before query bound.1 is)
+
+  reports_caused : (all : AskedReports told words) (number : ℕ) (before queries : List Query) → all.queries ≡ before ++ queries → AllByRecursion (λ q. (plan : PlanModel) × IsBound all.check.s q (Ok plan)) before →
+      (next : List ℕ → Script) → ((text : List ℕ) → Caused (next text)) → Caused (reporting all.check.s number queries next)
+  reports_caused all number before [] e bound next more = more []
+  reports_caused all number before (query ∷ queries) e bound next more = unreported all before query queries e bound _ (λ plan binds.
+      reports_caused all (number + 1) (before ++ query ∷ []) queries (e ∙ sym (append_assoc before (query ∷ []) queries)) (all_bound all.check.s before query bound (plan, binds))
+      (λ text. next (query_report all.check.s number query plan ++ text)) (λ text. more (query_report all.check.s number query plan ++ text)))
+
+  task_inputs : (task : Task) (next : SchemaModel → List ℕ → Script) → task_of words ≡ Some task → ((s : SchemaModel) (text : List ℕ) → Inputs told.files (file_of task) s text → Caused (next s text)) →
+      Caused (with_inputs (file_of task) next)
+  task_inputs task next e more = in_inputs told (Refused rose told words) (file_of task) next (λ file is h. ((task, e, is), h))
+      (λ net text hn ht line cause is. record { task = task; asked = e; net = net; text = text; net_held = hn; text_held = ht; is = is }) more
+
+  task_caused : (task : Option Task) → task_of words ≡ task → Caused (task_script task)
+  task_caused None e = e
+  task_caused (Some (Run file workers)) e = task_inputs (Run file workers) _ e (λ s sql inputs read is.
+      let run : AskedRun told words = record { file = file; workers = workers; s = s; sql = sql; asked = e; inputs = inputs } in
+      in_read told (Refused rose told words) status.Sql _ (AreQueriesIn sql) read is (λ place kind are. inl (run, are))
+      (λ queries are. queries_caused (record { run = run; queries = queries; are = are }) 0 [] queries refl tt))
+  task_caused (Some (Check file)) e = task_inputs (Check file) _ e (λ s sql inputs read is.
+      let check : AskedCheck told words = record { file = file; s = s; sql = sql; asked = e; inputs = inputs } in
+      in_read told (Refused rose told words) status.Sql _ (AreQueriesIn sql) read is (λ place kind are. inr (check, are))
+      (λ queries are. reports_caused (record { check = check; queries = queries; are = are }) 1 [] queries refl tt (λ text. Say (text_of s ++ text) Finish) (λ text. tt)))
+  task_caused (Some (Load site table number file)) e = task_inputs (Load site table number file) _ e (λ s csv inputs.
+      load_caused (record { site = site; table = table; number = number; file = file; s = s; csv = csv; asked = e; inputs = inputs }) (table_number table s) refl)
+
+  cause_of : (result : Status) → Refused rose told words result → Cause rose told words result
+  cause_of status.Done h = absurd h
+  cause_of status.Memory h = absurd h
+  cause_of status.Words h = h
+  cause_of (status.Schema line cause) h = h
+  cause_of (status.Sql place kind) h = h
+  cause_of (status.Plan kind name) h = h
+  cause_of (status.Forbidden column label) h = h
+  cause_of (status.TooLarge limit unit) h = h
+  cause_of (status.BadRows site table wrong) h = h
+  cause_of (status.NoFile name) h = h
+  cause_of (status.Unavailable who) h = h
+  cause_of status.TicketsSpent h = h
+  cause_of (status.Csv entry cause) h = h
+  cause_of (status.BatchDiffers row) h = h
+  cause_of (status.OverBound column) h = h
+  cause_of (status.Disagree table column) h = h
+
+  refusal_plain : (result : Status) → Refused rose told words result → IsPlain result
+  refusal_plain result h = record { not_done = λ e. subst (Refused rose told words) e h; not_memory = λ e. subst (Refused rose told words) e h }
+
+  pub caused : (out : List ℕ) (result : Status) (now : Told) → Follows rose told (script words) out result now → Cause rose told words result
+  caused out result now a = status_has rose (Cause rose told words) (λ who up. up) told (script words) out result now tt tt
+      (refusals_map (Refused rose told words) (Cause rose told words) cause_of told (script words) (task_caused (task_of words) refl)) a
+
+  pub all_plain : Refusals told IsPlain (script words)
+  all_plain = refusals_map (Refused rose told words) IsPlain refusal_plain told (script words) (task_caused (task_of words) refl)
+
+-- ---- what Done comes with
+module _ (told : Told) where
+  text_found : (Q : List ℕ → Told → Type 0) (name : List ℕ) (next : List ℕ → Script) (content : Option (List ℕ)) → Holds told.files name content →
+      ((bytes : List ℕ) → Holds told.files name (Some bytes) → Texts told Q (next bytes)) → Texts told Q (found name next content)
+  text_found Q name next None h more = tt
+  text_found Q name next (Some bytes) h more = more bytes h
+
+  text_read : {X : Type 0} (Q : List ℕ → Told → Type 0) (fault : ℕ → ℕ → Status) (next : X → Script) (is : Result X (ℕ × ℕ) → Type 0) (read : Result X (ℕ × ℕ)) → is read →
+      ((x : X) → is (Ok x) → Texts told Q (next x)) → Texts told Q (or_fault fault next read)
+  text_read Q fault next is (Ok x) h more = more x h
+  text_read Q fault next is (Err at) h more = tt
+
+  text_inputs : (Q : List ℕ → Told → Type 0) (name : List ℕ) (next : SchemaModel → List ℕ → Script) → ((s : SchemaModel) (text : List ℕ) → Inputs told.files name s text → Texts told Q (next s text)) →
+      Texts told Q (with_inputs name next)
+  text_inputs Q name next more = λ n hn. text_found Q (codes "net.schema") _ n hn (λ net held_net.
+      λ x hx. text_found Q name _ x hx (λ text held_text.
+      λ read is. text_read Q status.Schema (λ s. next s text) (IsSchemaIn net) read is (λ s says. more s text (record { net = net; net_held = held_net; text_held = held_text; says = says }))))
+
+  text_asked_if : (Q : List ℕ → Told → Type 0) (site : Site) (b : Bool) (t : TableModel) (next : Rows → Script) → ((rows : Rows) → KeepsIf b (kept_at told site) t.name rows → Texts told Q (next rows)) → Texts told Q (asking_if b site t next)
+  text_asked_if Q site true t next more = more
+  text_asked_if Q site false t next more = more [] refl
+
+  text_asked : (Q : List ℕ → Told → Type 0) (site : Site) (root : Node) (at : ℕ) (ts : List TableModel) (next : List Rows → Script) → ((tables : List Rows) → KeepsAll (kept_at told site) root at ts tables → Texts told Q (next tables)) →
+      Texts told Q (asking site root at ts next)
+  text_asked Q site root at [] next more = more [] refl
+  text_asked Q site root at (t ∷ ts) next more = text_asked_if Q site (scans at root) t _ (λ rows h. text_asked Q site root (at + 1) ts (λ later. next (rows ∷ later)) (λ later hs. more (rows ∷ later) (h, hs)))
+
+  text_right : (Q : List ℕ → Told → Type 0) (site : Site) (at : ℕ) (t : TableModel) (rows : Rows) (next : Script) (wrong : Option RowsErr) → IsWrong t rows wrong →
+      (IsValid t rows → Texts told Q next) → Texts told Q (or_wrong site at t next wrong)
+  text_right Q site at t rows next None valid more = more valid
+  text_right Q site at t rows next (Some wrong) is more = tt
+
+  text_judged : (Q : List ℕ → Told → Type 0) (site : Site) (at : ℕ) (ts : List TableModel) (tables : List Rows) (next : Script) → (AllValid ts tables → Texts told Q next) → Texts told Q (judging site at ts tables next)
+  text_judged Q site at [] tables next more = more tt
+  text_judged Q site at (t ∷ ts) [] next more = more tt
+  text_judged Q site at (t ∷ ts) (rows ∷ tables) next more = λ wrong is. text_right Q site at t rows _ wrong is (λ valid. text_judged Q site (at + 1) ts tables next (λ later. more (valid, later)))
+
+  text_large : (Q : List ℕ → Told → Type 0) (next : Script) (compiled : Compiled) → ((units : List UnitModel) → compiled ≡ Ok units → Texts told Q next) → Texts told Q (or_large next compiled)
+  text_large Q next (Ok units) more = more units refl
+  text_large Q next (Err passed) more = tt
+
+  planned_text : (Q : List ℕ → Told → Type 0) (s : SchemaModel) (ticket : ℕ) (query : Query) (next : Script) (plan : PlanModel) → IsBound s query (Ok plan) →
+      ((text : List ℕ) → IsAnswer told.a told.b s ticket query text → Texts told (λ more now. Q (text ++ more) now) next) → Texts told Q (planned_script s ticket query next plan)
+  planned_text Q s ticket query next plan binds more = text_asked Q A plan.root 0 s.tables _ (λ a ha. text_asked Q B plan.root 0 s.tables _ (λ b hb.
+      text_judged Q A 0 s.tables a _ (λ va. text_judged Q B 0 s.tables b _ (λ vb. text_large Q _ (units_over s plan.root a b) (λ units fits.
+      more (answer_text (ticket + 1) ticket plan.columns (answer s (union a b) query)) (record {
+        taken = record { plan = plan; binds = binds; a = a; b = b; held_a = ha; held_b = hb; valid_a = va; valid_b = vb; units = units; fits = fits };
+        printed = refl;
+      }))))))
+
+  bound_text : (Q : List ℕ → Told → Type 0) (s : SchemaModel) (query : Query) (next : PlanModel → Script) → ((bound : PlanModel) → IsBound s query (Ok bound) → Texts told Q (next bound)) →
+      (reply : Result PlanModel Unbound) → IsBound s query reply → Texts told Q (or_unbound next reply)
+  bound_text Q s query next more (Ok bound) binds = more bound binds
+  bound_text Q s query next more (Err (Broken kind name)) is = tt
+  bound_text Q s query next more (Err (Hidden column label)) is = tt
+
+  queries_text : (Q : List ℕ → Told → Type 0) (s : SchemaModel) (ticket : ℕ) (queries : List Query) → ((text : List ℕ) → AreAnswers told.a told.b s ticket queries text → Q text told) →
+      Texts told Q (queries_script s ticket queries)
+  queries_text Q s ticket [] done = done [] refl
+  queries_text Q s ticket (query ∷ queries) done = bound_text Q s query _ (λ plan binds. planned_text Q s ticket query _ plan binds (λ text is.
+      queries_text (λ more now. Q (text ++ more) now) s (ticket + 1) queries (λ more are. done (text ++ more) (text, more, refl, is, are))))
+
+  reports_text : (Q : List ℕ → Told → Type 0) (s : SchemaModel) (number : ℕ) (queries : List Query) (next : List ℕ → Script) → ((text : List ℕ) → AreReported s number queries text → Texts told Q (next text)) →
+      Texts told Q (reporting s number queries next)
+  reports_text Q s number [] next done = done [] refl
+  reports_text Q s number (query ∷ queries) next done = bound_text Q s query _ (λ plan binds. reports_text Q s (number + 1) queries (λ more. next (query_report s number query plan ++ more))
+      (λ more are. done (query_report s number query plan ++ more) (plan, more, binds, refl, are)))
+
+module _ (told : Told) (words : List (List ℕ)) where
+  answered_text : (table : AskedTable told words) (rows : List (List Value)) → AreRowsIn (table_of table.load.s table.at) table.load.csv (Ok rows) → (answer : Answer) →
+      Gives told (Batch table.load.site (table_of table.load.s table.at) table.load.number rows) answer →
+      Texts (after told (Batch table.load.site (table_of table.load.s table.at) table.load.number rows) answer) (IsDone told words) (answered (table_of table.load.s table.at) table.load.number (length rows) answer)
+  answered_text table rows are New says = inr (inr (record { table = table; rows = rows; are = are; loaded = inl (says, append-nil _, refl) }))
+  answered_text table rows are Again says = inr (inr (record { table = table; rows = rows; are = are; loaded = inr (says, append-nil _, refl) }))
+  answered_text table rows are (Differs at) says = tt
+  answered_text table rows are OverRows says = tt
+  answered_text table rows are (OverPer column) says = tt
+
+  load_text : (load : AskedLoad told words) (at : Option ℕ) → table_number load.table load.s ≡ at → Texts told (IsDone told words) (load_table load.site load.table load.number load.s load.csv at)
+  load_text load None e = tt
+  load_text load (Some at) e = λ read is. text_read told (IsDone told words) status.Csv _ (AreRowsIn (table_of load.s at) load.csv) read is
+      (λ rows are answer says. answered_text (record { load = load; at = at; is = e }) rows are answer says)
+
+  task_text : (task : Option Task) → task_of words ≡ task → Texts told (IsDone told words) (task_script task)
+  task_text None e = tt
+  task_text (Some (Run file workers)) e = text_inputs told (IsDone told words) file _ (λ s sql inputs read is.
+      text_read told (IsDone told words) status.Sql _ (AreQueriesIn sql) read is (λ queries are. queries_text told (IsDone told words) s 0 queries
+      (λ text answers. inl (record {
+        all = record { run = record { file = file; workers = workers; s = s; sql = sql; asked = e; inputs = inputs }; queries = queries; are = are };
+        answers = answers;
+        kept = refl;
+      }))))
+  task_text (Some (Check file)) e = text_inputs told (IsDone told words) file _ (λ s sql inputs read is.
+      text_read told (IsDone told words) status.Sql _ (AreQueriesIn sql) read is (λ queries are. reports_text told (IsDone told words) s 1 queries (λ text. Say (text_of s ++ text) Finish)
+      (λ text reported. inr (inl (record {
+        all = record { check = record { file = file; s = s; sql = sql; asked = e; inputs = inputs }; queries = queries; are = are };
+        reports = text;
+        reported = reported;
+        printed = append-nil _;
+        kept = refl;
+      })))))
+  task_text (Some (Load site table number file)) e = text_inputs told (IsDone told words) file _ (λ s csv inputs.
+      load_text (record { site = site; table = table; number = number; file = file; s = s; csv = csv; asked = e; inputs = inputs }) (table_number table s) refl)
+
+  pub does : (rose : Who → Type 0) (out : List ℕ) (result : Status) (now : Told) → Follows rose told (script words) out result now → result ≡ status.Done → IsDone told words out now
+  does rose out result now a done = done_text rose told (IsDone told words) (script words) out result now (all_plain rose told words) (task_text (task_of words) refl) a done

@@ -1,0 +1,95 @@
+-- What the words of a command line ask for, and what is then to be done.
+use Rattle.std.specs.Prelude.{ℕ, ◌-◌, ◌^◌, List, [], ◌∷◌, Bool, true, false, ◌&&◌, ◌||◌, not, nat_le, nat_lt, ◌==◌, length, slice_index, Option, Some, None, codes, if◌then◌else◌}
+use Rattle.std.specs.Char.{is_ascii_digit}
+use Rattle.std.specs.List.{list_all}
+use Rattle.std.specs.Str.{bytes_eq}
+use Rattle.std.specs.Option.{option_map, option_and_then}
+use Rattle.pdn_base.specs.Numbers.{number_of, value_of}
+use Rattle.pdn_base.specs.declared.site.Site.{Site}
+use Rattle.pdn_base.specs.declared.site.Site.TheVariants.{A, B}
+use Rattle.pdn_base.specs.declared.status.Status.TheVariants as status
+use Rattle.pdn_commands.specs.Questions.{QueriesIn}
+use Rattle.pdn_commands.specs.Script.{Script, Ask, refuse, or_fault, with_inputs, load_script}
+use Rattle.pdn_commands.specs.Answering.{queries_script}
+use Rattle.pdn_commands.specs.Checking.{report_script}
+use Rattle.pdn_commands.specs.declared.command.Command.{Command}
+use Rattle.pdn_commands.specs.declared.command.Command.TheVariants as command
+
+pub data Task : Type 0 where
+  Run : List ℕ → ℕ → Task  -- the SQL file, and how many workers
+  Check : List ℕ → Task  -- the SQL file
+  Load : Site → List ℕ → ℕ → List ℕ → Task  -- at this site, of the table of this name, the batch of this number, from the CSV file
+
+-- what a command of the code asks for
+abbrev pub seen : Command → Task
+seen (command.Run file workers) = Run file.now workers
+seen (command.Check file) = Check file.now
+seen (command.Load site table batch file) = Load site table.now batch file.now
+
+-- 1 to 16, without a leading zero
+abbrev pub is_workers : List ℕ → ℕ → Bool
+is_workers word n = nat_le 1 n && nat_le n 16 && not (slice_index word 0 == 48)
+
+abbrev pub workers_of : List ℕ → Option ℕ
+workers_of word = option_and_then (λ n. if is_workers word n then Some n else None) (number_of word)
+
+abbrev pub site_of : List ℕ → Option Site
+site_of word = if bytes_eq word (codes "a") then Some A else if bytes_eq word (codes "b") then Some B else None
+
+-- 0 to 2 ^ 64 - 1, without a leading zero
+abbrev pub is_batch : List ℕ → Bool
+is_batch word = nat_lt 0 (length word) && nat_le (length word) 20 && list_all is_ascii_digit word && (length word == 1 || not (slice_index word 0 == 48)) && nat_lt (value_of word) 18446744073709551616
+
+abbrev pub batch_of : List ℕ → Option ℕ
+batch_of word = if is_batch word then Some (value_of word) else None
+
+abbrev pub load_of : Option Site → List ℕ → Option ℕ → List ℕ → Option Task
+load_of (Some site) table (Some number) file = Some (Load site table number file)
+load_of site table number file = None
+
+-- `run <sqlfile> <workers>`
+abbrev pub run_task : List (List ℕ) → Option Task
+run_task (file ∷ workers ∷ []) = option_map (Run file) (workers_of workers)
+run_task words = None
+
+-- `check <sqlfile>`
+abbrev pub check_task : List (List ℕ) → Option Task
+check_task (file ∷ []) = Some (Check file)
+check_task words = None
+
+-- `load <a or b> <table> <batch> <csvfile>`
+abbrev pub load_task : List (List ℕ) → Option Task
+load_task (site ∷ table ∷ batch ∷ file ∷ []) = load_of (site_of site) table (batch_of batch) file
+load_task words = None
+
+abbrev pub task_of : List (List ℕ) → Option Task
+task_of [] = None
+task_of (verb ∷ words) = if bytes_eq verb (codes "run") then run_task words else if bytes_eq verb (codes "load") then load_task words
+    else if bytes_eq verb (codes "check") then check_task words else None
+
+abbrev pub same_site : Site → Site → Bool
+same_site A A = true
+same_site B B = true
+same_site site other = false
+
+-- a load at this site is asked for
+abbrev pub loads : Site → Option Task → Bool
+loads site None = false
+loads site (Some (Run file workers)) = false
+loads site (Some (Check file)) = false
+loads site (Some (Load at table number file)) = same_site site at
+
+abbrev pub run_script : List ℕ → Script
+run_script file = with_inputs file (λ s sql. Ask (QueriesIn sql) (or_fault status.Sql (queries_script s 0)))
+
+abbrev pub check_script : List ℕ → Script
+check_script file = with_inputs file (λ s sql. Ask (QueriesIn sql) (or_fault status.Sql (report_script s)))
+
+abbrev pub task_script : Option Task → Script
+task_script None = refuse status.Words
+task_script (Some (Run file workers)) = run_script file
+task_script (Some (Check file)) = check_script file
+task_script (Some (Load site table number file)) = load_script site table number file
+
+abbrev pub script : List (List ℕ) → Script
+script words = task_script (task_of words)

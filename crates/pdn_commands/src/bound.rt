@@ -1,0 +1,29 @@
+//! The plan of a query, or the refusal.
+ghost use Rattle.std.specs.Prelude.{◌≡◌, Ok, true, IfOk, MatchResult};
+ghost use Rattle.pdn_plan.specs.Answer.{IsWritten};
+ghost use Rattle.pdn_tree.specs.Shapes.{shape};
+ghost use Rattle.pdn_commands.specs.Questions.{IsBound};
+ghost use Rattle.pdn_commands.specs.Stops.{IsNoPlan};
+
+use crate::stop::{Stop, refused};
+use pdn_base::Status;
+use pdn_plan::{Plan, PlanErr, bind};
+use pdn_schema::Schema;
+use pdn_sql::Query;
+use std::alloc::Global;
+
+/// The plan of a query, or the refusal: the first rule of binding that it breaks, else the first column of its answer that
+/// isn't public.
+pub fn bound(alloc: Global, schema: &Schema, query: &Query) -> Result<Plan, Stop>
+    ensures is { MatchResult result (λ plan. IsBound schema.now query.now (Ok plan)) (IsNoPlan schema.now query.now) }
+    ensures sound { IsWritten query.now → IfOk result (λ plan. (shape schema.now plan.root).sound ≡ true) }
+{
+    match bind(alloc, schema, query) {
+        Ok(plan) => Ok(plan),
+        Err(PlanErr::Refused { kind, name }) => Err(refused(alloc, Status::Plan { kind, name })),
+        Err(PlanErr::Forbidden { column, label }) => {
+            Err(refused(alloc, Status::Forbidden { column, label }))
+        }
+        Err(PlanErr::Memory) => Err(Stop::Memory),
+    }
+}

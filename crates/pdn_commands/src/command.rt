@@ -1,0 +1,139 @@
+//! The words of the command line.
+ghost use Rattle.std.specs.Prelude.{◌≡◌, ◌≤◌, ◌∷◌, map, length, IsTrue};
+ghost use Rattle.std.specs.Char.{is_ascii_digit};
+ghost use Rattle.std.specs.List.{list_all};
+ghost use Rattle.std.specs.String.{string_bytes};
+ghost use Rattle.std.specs.Option.{option_map};
+ghost use Rattle.pdn_base.specs.Numbers.{value_of};
+ghost use Rattle.pdn_commands.specs.Commands.{task_of, run_task, check_task, load_task, workers_of, site_of, batch_of, seen};
+
+use pdn_base::{Site, number};
+
+/// What a command line asks for.
+#[derive(Clone, Copy, Debug)]
+pub enum Command<'a> {
+    /// `run <sqlfile> <workers>`
+    Run {
+        file: &'a str,
+        workers: u8,
+    },
+    /// `check <sqlfile>`
+    Check {
+        file: &'a str,
+    },
+    /// `load <a or b> <table> <batch> <csvfile>`
+    Load {
+        site: Site,
+        table: &'a str,
+        batch: u64,
+        file: &'a str,
+    },
+}
+
+/// What the words ask for, where they are in the table of commands.
+pub fn read_command(words: &[String]) -> Option<Command<'_>>
+    ensures { option_map seen result ≡ task_of (map string_bytes words.now) }
+{
+    let Some((verb, rest)) = words.split_first() else {
+        return None;
+    };
+    match verb.as_str() {
+        "run" => read_run(rest),
+        "load" => read_load(rest),
+        "check" => read_check(rest),
+        _ => None,
+    }
+}
+
+fn read_run(words: &[String]) -> Option<Command<'_>>
+    ensures { option_map seen result ≡ run_task (map string_bytes words.now) }
+{
+    match words {
+        [file, workers] => Some(Command::Run {
+            file: file.as_str(),
+            workers: read_workers(workers.as_bytes())?,
+        }),
+        _ => None,
+    }
+}
+
+fn read_check(words: &[String]) -> Option<Command<'_>>
+    ensures { option_map seen result ≡ check_task (map string_bytes words.now) }
+{
+    match words {
+        [file] => Some(Command::Check {
+            file: file.as_str(),
+        }),
+        _ => None,
+    }
+}
+
+fn read_load(words: &[String]) -> Option<Command<'_>>
+    ensures { option_map seen result ≡ load_task (map string_bytes words.now) }
+{
+    match words {
+        [site, table, batch, file] => Some(Command::Load {
+            site: read_site(site.as_str())?,
+            table: table.as_str(),
+            batch: read_batch(batch.as_bytes())?,
+            file: file.as_str(),
+        }),
+        _ => None,
+    }
+}
+
+fn read_site(word: &str) -> Option<Site>
+    ensures { result ≡ site_of word.now }
+{
+    match word {
+        "a" => Some(Site::A),
+        "b" => Some(Site::B),
+        _ => None,
+    }
+}
+
+fn read_workers(word: &[u8]) -> Option<u8>
+    ensures { result ≡ workers_of word.now }
+{
+    let count = number(word)?;
+    if count < 1 || count > 16 || word[0] == b'0' {
+        return None;
+    }
+    Some(count as u8)
+}
+
+// The number of a batch: 0 to 2^64 - 1, without a leading zero.
+fn read_batch(word: &[u8]) -> Option<u64>
+    ensures { result ≡ batch_of word.now }
+{
+    if word.is_empty()
+        || word.len() > 20
+        || !all_digits(word)
+        || (word.len() > 1 && word[0] == b'0')
+    {
+        return None;
+    }
+    let value = value(word);
+    if value > u128::from(u64::MAX) {
+        return None;
+    }
+    Some(value as u64)
+}
+
+fn all_digits(bytes: &[u8]) -> bool
+    ensures { result ≡ list_all is_ascii_digit bytes.now }
+{
+    bytes.iter().all(|byte| byte.is_ascii_digit())
+}
+
+fn value(digits: &[u8]) -> u128
+    requires few { length digits.now ≤ 20 }
+    requires digits { IsTrue (list_all is_ascii_digit digits.now) }
+    ensures { result ≡ value_of digits.now }
+{
+    let mut value = 0;
+    for digit in digits {
+        value = value * 10 + u128::from(*digit - b'0');
+    }
+    value
+}

@@ -1,0 +1,4 @@
+pub mod Rules
+pub mod Scripts
+pub mod Ways
+pub mod Stops
