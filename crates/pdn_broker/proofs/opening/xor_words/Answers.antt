@@ -1,6 +1,6 @@
 use Rattle.std.proofs.Common.{rules}
 use Rattle.pdn_broker.proofs.RunLaws.{xor_step}
-use Rattle.pdn_broker.proofs.shares.xor_words.Goals as goal
+use Rattle.pdn_broker.proofs.opening.xor_words.Goals as goal
 
 pub loop-k-preserved : goal.loop-k-preserved
 loop-k-preserved c =
