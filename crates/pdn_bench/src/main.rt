@@ -38,7 +38,18 @@ fn bench(rt: &(impl Env + AllocGlobal + CpuClock + Print)) -> Result<(), Stop> {
     println!(rt; "turn ands deal split new order run eval unit kilo_ands_a_second")?;
     for turn in 0..turns {
         let row = measure(rt, alloc, &circuit)?;
-        println!(rt; "{turn} {} {} {} {} {} {} {} {} {}", row.ands, row.each(row.deal), row.each(row.split), row.each(row.new), row.each(row.order), row.each(row.run), row.each(row.eval), row.each(row.unit()), row.rate())?;
+        println!(rt;
+            "{turn} {} {} {} {} {} {} {} {} {}",
+            row.ands,
+            row.each(row.deal),
+            row.each(row.split),
+            row.each(row.new),
+            row.each(row.order),
+            row.each(row.run),
+            row.each(row.eval),
+            row.each(row.unit()),
+            row.rate()
+        )?;
     }
     Ok(())
 }
@@ -62,7 +73,10 @@ fn asked(words: &[String]) -> Option<(Shape, u32)> {
         [name, chains, length, turns] if name.as_str() == "deep" => {
             let chains = chains.as_str().parse::<u32>().ok()?;
             let length = length.as_str().parse::<u32>().ok()?;
-            Some((Shape::Deep { chains, length }, turns.as_str().parse::<u32>().ok()?))
+            Some((
+                Shape::Deep { chains, length },
+                turns.as_str().parse::<u32>().ok()?,
+            ))
         }
         _ => None,
     }

@@ -35,7 +35,10 @@ impl Row {
 
     /// All that a unit's run takes.
     pub fn unit(&self) -> u64 {
-        self.deal.saturating_add(self.split).saturating_add(self.new).saturating_add(self.run)
+        self.deal
+            .saturating_add(self.split)
+            .saturating_add(self.new)
+            .saturating_add(self.run)
     }
 
     /// Thousands of And words a second, of both halves' run alone.

@@ -199,5 +199,11 @@ pub frame_few : (s : HalfState) → IsCircuit s.net → length (next_frame s) < 
 frame_few s is =
     let sent : List Masked = (half_walk s.half s.heard s.net.gates).sent in
     let few = is.few_gates in
-    omega (arith, two_words_each (pick (s.taken + 1) (rounds_of s.net) sent), pick_few (s.taken + 1) (rounds_of s.net) sent, rounds_long (slice_index (depths_of s.net.gates)) 0 s.net.gates,
-    length-ands s.net.gates, count_by-le-length is_and s.net.gates)
+    omega (
+      arith,
+      two_words_each (pick (s.taken + 1) (rounds_of s.net) sent),
+      pick_few (s.taken + 1) (rounds_of s.net) sent,
+      rounds_long (slice_index (depths_of s.net.gates)) 0 s.net.gates,
+      length-ands s.net.gates,
+      count_by-le-length is_and s.net.gates,
+    )

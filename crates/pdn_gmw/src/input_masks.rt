@@ -40,7 +40,8 @@ fn add_r(
     ensures inputs { IfOk result (λ count. count ≡ inputs_after inputs gate.now) }
 {
     match (site, gate) {
-        (Site::A, Gate::Input { site: Site::A, .. }) | (Site::B, Gate::Input { site: Site::B, .. }) => {
+        (Site::A, Gate::Input { site: Site::A, .. })
+        | (Site::B, Gate::Input { site: Site::B, .. }) => {
             words.push(r[inputs])?;
             Ok(inputs + 1)
         }
