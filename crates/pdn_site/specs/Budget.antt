@@ -3,6 +3,7 @@ use Rattle.std.specs.Prelude.{◌≡◌, ℕ, ◌+◌, ◌-◌, ◌≤◌, List,
 use Rattle.std.specs.List.{flat_map}
 use Rattle.pdn_base.specs.declared.value.Value.{Value}
 use Rattle.pdn_schema.specs.Models.{SchemaModel}
+use Rattle.pdn_circuit.specs.declared.gate.Gate.{Gate}
 use Rattle.pdn_circuit.specs.declared.tally.BuildErr.{BuildErr}
 use Rattle.pdn_circuit.specs.declared.tally.BuildErr.TheVariants as build
 use Rattle.pdn_circuit.specs.Gates.{Net}
