@@ -1,8 +1,6 @@
 pub mod Walks
-pub mod Ends
 pub mod Answers
 pub mod Loads
 pub mod Checks
 pub mod Causes
-pub mod Planes
 pub mod Ready
