@@ -1,1 +1,1 @@
-pub mod Imports
+pub mod Taking
