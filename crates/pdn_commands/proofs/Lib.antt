@@ -1,4 +1,5 @@
 pub mod Walks
+pub mod Ends
 pub mod Answers
 pub mod Loads
 pub mod Checks

@@ -1,0 +1,162 @@
+-- What follows from the answer along a script, for every script.
+use Rattle.std.proofs.Common.{◌≡◌, ℕ, ◌++◌, List, [], refl, sym, ◌∙◌, Option, inl, inr, ◌⊎◌, append-nil, append_assoc}
+use Rattle.pdn_base.specs.declared.status.Status.{Status}
+use Rattle.pdn_base.specs.declared.status.Status.TheVariants as status
+use Rattle.pdn_base.specs.declared.status.Who.{Who}
+use Rattle.pdn_base.specs.declared.status.Who.TheVariants.{Sink}
+use Rattle.pdn_commands.specs.Questions.{Told, Question, Gives, after}
+use Rattle.pdn_commands.specs.Script.{Script, Finish, Say, Refuse, Ask}
+use Rattle.pdn_commands.specs.Walk.{Goes, End, Finished, NoMemory, PutFailed, Refused, Fails, Wrote, Closes, Follows, Clears, Refusals, Texts, IsDue}
+
+-- with nothing to refuse and no fault a walk goes to its end
+goes_through : (rose : Who → Type 0) → ((who : Who) → rose who → ⊥) → (told : Told) (script : Script) (out : List ℕ) (end : End) (now : Told) → Clears told script → Goes rose told script out end now →
+    (end ≡ Finished) ⊎ (end ≡ NoMemory)
+goes_through rose calm told Finish out end now clear w = w.2
+goes_through rose calm told (Refuse status line) out end now clear w = absurd clear
+goes_through rose calm told (Say text rest) out end now clear (inl w) = inr w.2
+goes_through rose calm told (Say text rest) out end now clear (inr (inl w)) = absurd (calm Sink w.3)
+goes_through rose calm told (Say text rest) out end now clear (inr (inr w)) = goes_through rose calm told rest w.0 end now clear w.2
+goes_through rose calm told (Ask question next) out end now clear (inl w) = inr w.2
+goes_through rose calm told (Ask question next) out end now clear (inr (inl w)) = let f : Fails rose question end = w.2 in absurd (calm f.who f.rise)
+goes_through rose calm told (Ask question next) out end now clear (inr (inr w)) = goes_through rose calm (after told question w.0) (next w.0) out end now (clear w.0 w.1) w.2
+
+closes_done : (rose : Who → Type 0) (end : End) (out : List ℕ) (result : Status) → (end ≡ Finished) ⊎ (end ≡ NoMemory) → Closes rose end out result →
+    (result ≡ status.Done) ⊎ (result ≡ status.Memory)
+closes_done rose Finished out result e c = inl c.1
+closes_done rose NoMemory out result e c = inr c.1
+closes_done rose PutFailed out result (inl e) c = cc
+closes_done rose PutFailed out result (inr e) c = cc
+closes_done rose (Refused refused line) out result (inl e) c = cc
+closes_done rose (Refused refused line) out result (inr e) c = cc
+
+pub completes : (rose : Who → Type 0) (told : Told) (script : Script) (out : List ℕ) (result : Status) (now : Told) → Follows rose told script out result now →
+    Clears told script → ((who : Who) → rose who → ⊥) → (result ≡ status.Done) ⊎ (result ≡ status.Memory)
+completes rose told script out result now a clear calm = closes_done rose a.end a.last result (goes_through rose calm told script a.front a.end now clear a.goes) a.closes
+
+-- what holds of each refusal, and of a fault where a count rose, holds of the status
+module _ (rose : Who → Type 0) (P : Status → Type 0) (faults : (who : Who) → rose who → P (status.Unavailable who)) where
+  abbrev EndHas : End → Type 0
+  EndHas Finished = Unit {0}
+  EndHas NoMemory = Unit {0}
+  EndHas PutFailed = P (status.Unavailable Sink)
+  EndHas (Refused refused line) = P refused
+
+  pub end_has : (told : Told) (script : Script) (out : List ℕ) (end : End) (now : Told) → Refusals told P script → Goes rose told script out end now → EndHas end
+  end_has told Finish out end now r (none, stays, inl e) = rw (e) tt
+  end_has told Finish out end now r (none, stays, inr e) = rw (e) tt
+  end_has told (Refuse refused line) out end now r (none, stays, inl e) = rw (e) r
+  end_has told (Refuse refused line) out end now r (none, stays, inr e) = rw (e) tt
+  end_has told (Say text rest) out end now r (inl w) = rw (w.2) tt
+  end_has told (Say text rest) out end now r (inr (inl w)) = rw (w.4) (faults Sink w.3)
+  end_has told (Say text rest) out end now r (inr (inr w)) = end_has told rest w.0 end now r w.2
+  end_has told (Ask question next) out end now r (inl w) = rw (w.2) tt
+  end_has told (Ask question next) out end now r (inr (inl w)) = let f : Fails rose question end = w.2 in rw (f.ends) (faults f.who f.rise)
+  end_has told (Ask question next) out end now r (inr (inr w)) = end_has (after told question w.0) (next w.0) out end now (r w.0 w.1) w.2
+
+  closed_has : (end : End) (out : List ℕ) (result : Status) → P status.Done → P status.Memory → EndHas end → Closes rose end out result → P result
+  closed_has Finished out result done memory h c = rw (c.1) done
+  closed_has NoMemory out result done memory h c = rw (c.1) memory
+  closed_has PutFailed out result done memory h c = rw (c.1) h
+  closed_has (Refused refused line) out result done memory h c = rw (c.0) h
+
+  pub status_has : (told : Told) (script : Script) (out : List ℕ) (result : Status) (now : Told) → P status.Done → P status.Memory → Refusals told P script →
+      Follows rose told script out result now → P result
+  status_has told script out result now done memory r a = closed_has a.end a.last result done memory (end_has told script a.front a.end now r a.goes) a.closes
+
+-- the whole text, where a walk ends without a refusal
+finished_text : (rose : Who → Type 0) (told : Told) (Q : List ℕ → Told → Type 0) (script : Script) (out : List ℕ) (end : End) (now : Told) → end ≡ Finished →
+    Texts told Q script → Goes rose told script out end now → Q out now
+finished_text rose told Q Finish out end now e t w = rw (w.0, w.1) t
+finished_text rose told Q (Refuse refused line) out end now e t (none, stays, inl is) = cc
+finished_text rose told Q (Refuse refused line) out end now e t (none, stays, inr is) = cc
+finished_text rose told Q (Say text rest) out end now e t (inl (none, stays, is)) = cc
+finished_text rose told Q (Say text rest) out end now e t (inr (inl (k, front, stays, up, is))) = cc
+finished_text rose told Q (Say text rest) out end now e t (inr (inr w)) = rw (w.1) (finished_text rose told (λ more kept. Q (text ++ more) kept) rest w.0 end now e t w.2)
+finished_text rose told Q (Ask question next) out end now e t (inl (none, stays, is)) = cc
+finished_text rose told Q (Ask question next) out end now e t (inr (inl (none, stays, fails))) = let is = fails.ends in cc
+finished_text rose told Q (Ask question next) out end now e t (inr (inr w)) = finished_text rose (after told question w.0) Q (next w.0) out end now e (t w.0 w.1) w.2
+
+-- ---- what Done and Memory come with, where no refusal is one of them
+
+-- a status that a refusal may have
+pub record IsPlain (refused : Status) : Type 0 where
+  pub not_done : refused ≡ status.Done → ⊥
+  pub not_memory : refused ≡ status.Memory → ⊥
+
+module _ (rose : Who → Type 0) (told : Told) where
+  plain_end : (script : Script) (out : List ℕ) (refused : Status) (line : List ℕ) (now : Told) → Refusals told IsPlain script → Goes rose told script out (Refused refused line) now → IsPlain refused
+  plain_end script out refused line now r w = end_has rose IsPlain (λ who up. record { not_done = λ e. cc; not_memory = λ e. cc }) told script out (Refused refused line) now r w
+
+  done_end : (Q : List ℕ → Told → Type 0) (script : Script) (front last out : List ℕ) (end : End) (result : Status) (now : Told) → out ≡ front ++ last → result ≡ status.Done →
+      Refusals told IsPlain script → Texts told Q script → Goes rose told script front end now → Closes rose end last result → Q out now
+  done_end Q script front last out Finished result now whole done r t w c = rw (whole, c.0, append-nil front) (finished_text rose told Q script front Finished now refl t w)
+  done_end Q script front last out NoMemory result now whole done r t w (none, is) = cc
+  done_end Q script front last out PutFailed result now whole done r t w (none, is) = cc
+  done_end Q script front last out (Refused refused line) result now whole done r t w (is, put) = let p = plain_end script front refused line now r w in absurd (p.not_done (sym is ∙ done))
+
+  pub done_text : (Q : List ℕ → Told → Type 0) (script : Script) (out : List ℕ) (result : Status) (now : Told) → Refusals told IsPlain script → Texts told Q script →
+      Follows rose told script out result now → result ≡ status.Done → Q out now
+  done_text Q script out result now r t a done = done_end Q script a.front a.last out a.end result now a.whole done r t a.goes a.closes
+
+  -- a refusal's status isn't Memory
+  pub refused_plain : (script : Script) (out : List ℕ) (refused : Status) (line : List ℕ) (now : Told) → Refusals told IsPlain script → Goes rose told script out (Refused refused line) now →
+      refused ≡ status.Memory → ⊥
+  refused_plain script out refused line now r w = (plain_end script out refused line now r w).not_memory
+
+-- ---- what is due, where no count rose
+module _ (rose : Who → Type 0) (calm : (who : Who) → rose who → ⊥) where
+  -- the line and the status that an end leads to
+  abbrev line_of : End → List ℕ
+  line_of (Refused refused line) = line
+  line_of other = []
+
+  abbrev status_of : End → Status
+  status_of Finished = status.Done
+  status_of NoMemory = status.Memory
+  status_of PutFailed = status.Unavailable Sink
+  status_of (Refused refused line) = refused
+
+  abbrev EndDue : Told → Script → List ℕ → End → Told → Type 0
+  EndDue told script out end now = (end ≡ NoMemory) ⊎ IsDue told script (status_of end) (out ++ line_of end) now
+
+  due_more : (told : Told) (text : List ℕ) (rest : Script) (out more : List ℕ) (end : End) (now : Told) → out ≡ text ++ more → EndDue told rest more end now → EndDue told (Say text rest) out end now
+  due_more told text rest out more end now e (inl short) = inl short
+  due_more told text rest out more end now e (inr due) = inr (more ++ line_of end, rw (e) (append_assoc text more (line_of end)), due)
+
+  due_end : (told : Told) (script : Script) (out : List ℕ) (end : End) (now : Told) → Goes rose told script out end now → EndDue told script out end now
+  due_end told Finish out end now (none, stays, inl is) = inr (rw (is) refl, rw (none, is) refl, stays)
+  due_end told Finish out end now (none, stays, inr is) = inl is
+  due_end told (Refuse refused line) out end now (none, stays, inl is) = inr (rw (is) refl, rw (none, is) refl, stays)
+  due_end told (Refuse refused line) out end now (none, stays, inr is) = inl is
+  due_end told (Say text rest) out end now (inl w) = inl w.2
+  due_end told (Say text rest) out end now (inr (inl w)) = absurd (calm Sink w.3)
+  due_end told (Say text rest) out end now (inr (inr w)) = due_more told text rest out w.0 end now w.1 (due_end told rest w.0 end now w.2)
+  due_end told (Ask question next) out end now (inl w) = inl w.2
+  due_end told (Ask question next) out end now (inr (inl w)) = let f : Fails rose question end = w.2 in absurd (calm f.who f.rise)
+  due_end told (Ask question next) out end now (inr (inr w)) = elim (due_end (after told question w.0) (next w.0) out end now w.2) [
+    | inl short ↦ inl short
+    | inr due ↦ inr (w.0, w.1, due)
+  ]
+
+  due_closed : (told : Told) (script : Script) (front last out : List ℕ) (end : End) (result : Status) (now : Told) → out ≡ front ++ last → EndDue told script front end now → Closes rose end last result →
+      (result ≡ status.Memory) ⊎ IsDue told script result out now
+  due_closed told script front last out Finished result now whole (inl short) c = cc
+  due_closed told script front last out Finished result now whole (inr due) c = inr (rw (whole, c.0, c.1) due)
+  due_closed told script front last out NoMemory result now whole d c = inl c.1
+  due_closed told script front last out PutFailed result now whole (inl short) c = cc
+  due_closed told script front last out PutFailed result now whole (inr due) c = inr (rw (whole, c.0, c.1) due)
+  due_closed told script front last out (Refused refused line) result now whole (inl short) c = cc
+  due_closed told script front last out (Refused refused line) result now whole (inr due) (is, inl put) = inr (rw (whole, put, is) due)
+  due_closed told script front last out (Refused refused line) result now whole (inr due) (is, inr rise) = absurd (calm Sink rise.0)
+
+  is_due : (told : Told) (script : Script) (out : List ℕ) (result : Status) (now : Told) → Follows rose told script out result now →
+      (result ≡ status.Memory) ⊎ IsDue told script result out now
+  is_due told script out result now a = due_closed told script a.front a.last out a.end result now a.whole (due_end told script a.front a.end now a.goes) a.closes
+
+  -- the same, by what a sink has taken
+  pub written_due : (told : Told) (script : Script) (old new : Option (List ℕ)) (result : Status) (now : Told) → Wrote old new (λ text. Follows rose told script text result now) →
+      (result ≡ status.Memory) ⊎ Wrote old new (λ text. IsDue told script result text now)
+  written_due told script old new result now w = elim (is_due told script w.0 result now w.2) [
+    | inl short ↦ inl short
+    | inr due ↦ inr (w.0, w.1, due)
+  ]
