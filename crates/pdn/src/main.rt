@@ -2,9 +2,10 @@
 #![tactic(auto)]
 
 use pdn_base::{Files, RealFiles, Sink, Site, Status, StdSink};
-use pdn_commands::{ImportErr, dealer_of, import_tables, pdn, schema_there};
+use pdn_commands::pdn;
 use pdn_dealer::ChaChaDeal;
 use pdn_keeper::MemSite;
+use pdn_startup::{ImportErr, dealer_of, import_tables, schema_there};
 use std::alloc::Global;
 use std::io::ErrorKind;
 use std::process::ExitCode;

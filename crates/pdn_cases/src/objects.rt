@@ -3,10 +3,10 @@ ghost use Rattle.std.specs.Prelude.{◌≤◌, length, All};
 
 use crate::case::{Case, CaseErr, Fails, NamedFile, Ones, content};
 use pdn_base::{Files, MemFiles, MemSink, Site, Word};
-use pdn_commands::{ImportErr, import_tables, schema_there};
 use pdn_dealer::ListDeal;
 use pdn_keeper::MemSite;
 use pdn_schema::{Schema, read_schema};
+use pdn_startup::{ImportErr, import_tables, schema_there};
 use std::alloc::Global;
 
 /// The files, the sites and the sink of a case.

@@ -4,8 +4,9 @@ ghost use Rattle.std.specs.Prelude.{◌≤◌, length, All};
 use crate::case::{Case, CaseErr, NamedFile, content};
 use crate::objects::{Objects, dealer_of_ones};
 use pdn_base::Sink;
-use pdn_commands::{ImportErr, dealer_of, pdn};
+use pdn_commands::pdn;
 use pdn_dealer::Deal;
+use pdn_startup::{ImportErr, dealer_of};
 use std::alloc::Global;
 
 /// The statuses of the commands, and all that the sink took.

@@ -4,5 +4,4 @@ pub mod Answers
 pub mod Loads
 pub mod Checks
 pub mod Causes
-pub mod Planes
 pub mod Ready

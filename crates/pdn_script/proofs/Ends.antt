@@ -98,3 +98,11 @@ module _ {Question : Type 0} {Told : Type 0} (rules : Rules Question Told) where
     pub refused_plain : (script : Script Question rules.Reply) (out : List ℕ) (refused : Status) (line : List ℕ) (now : Told) → Refusals rules told IsPlain script → Goes rules rose told script out (Refused refused line) now →
         refused ≡ status.Memory → ⊥
     refused_plain script out refused line now r w = (plain_end script out refused line now r w).not_memory
+
+  -- where the status is Memory, memory ran out on the way
+  pub memory_end : (rose R : Who → Type 0) (told : Told) (script : Script Question rules.Reply) (front last : List ℕ) (end : End) (result : Status) (now : Told) →
+      Refusals rules told IsPlain script → Goes rules rose told script front end now → Closes R end last result → result ≡ status.Memory → end ≡ NoMemory
+  memory_end rose R told script front last Finished result now r w (none, is) e = cc
+  memory_end rose R told script front last NoMemory result now r w c e = refl
+  memory_end rose R told script front last PutFailed result now r w (none, is) e = cc
+  memory_end rose R told script front last (Refused refused line) result now r w (is, put) e = absurd (refused_plain rose told script front refused line now r w (sym is ∙ e))

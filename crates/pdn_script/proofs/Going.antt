@@ -11,7 +11,7 @@ use Rattle.pdn_script.specs.declared.stop.Stop.{Stop}
 use Rattle.pdn_script.specs.Rules.{Rules}
 use Rattle.pdn_script.specs.Scripts.{Script, Finish, Say, Refuse, Ask}
 use Rattle.pdn_script.specs.Stops.{IsRefusal, stop_of}
-use Rattle.pdn_script.specs.Ways.{Goes, End, NoMemory, Wrote, Closes, Follows, Fails}
+use Rattle.pdn_script.specs.Ways.{Goes, End, NoMemory, Wrote, Closes, Follows, Fails, Finished, PutFailed, Refused}
 
 -- ---- what is put
 
@@ -76,12 +76,19 @@ module _ {Question : Type 0} {Told : Type 0} (rules : Rules Question Told) where
 
   -- ---- the end
 
-  -- an end and what was put behind it
-  pub concluded : (P rose : Who → Type 0) (told : Told) (script : Script Question rules.Reply) (written after last : Option (List ℕ)) (end : End) (result : Status) (now : Told) →
-      ((who : Who) → P who → rose who) → Wrote written after (λ text. Goes rules P told script text end now) → Wrote after last (λ text. Closes rose end text result) →
+  closes_within : (P Q : Who → Type 0) → (P Sink → Q Sink) → (end : End) (out : List ℕ) (result : Status) → Closes P end out result → Closes Q end out result
+  closes_within P Q up Finished out result c = c
+  closes_within P Q up NoMemory out result c = c
+  closes_within P Q up PutFailed out result c = c
+  closes_within P Q up (Refused refused line) out result (is, inl whole) = (is, inl whole)
+  closes_within P Q up (Refused refused line) out result (is, inr (rise, k, front)) = (is, inr (up rise, k, front))
+
+  -- an end, and what was put behind it
+  pub concluded : (P R rose : Who → Type 0) (told : Told) (script : Script Question rules.Reply) (written after last : Option (List ℕ)) (end : End) (result : Status) (now : Told) →
+      ((who : Who) → P who → rose who) → (R Sink → rose Sink) → Wrote written after (λ text. Goes rules P told script text end now) → Wrote after last (λ text. Closes R end text result) →
       Wrote written last (λ text. Follows rules rose told script text result now)
-  concluded P rose told script written after last end result now up w c = (
+  concluded P R rose told script written after last end result now up rise w c = (
     w.0 ++ c.0,
     appends_both written after last w.0 c.0 w.1 c.1,
-    record { end = end; front = w.0; last = c.0; whole = refl; goes = goes_within P rose up told script w.0 end now w.2; closes = c.2 },
+    record { end = end; front = w.0; last = c.0; whole = refl; goes = goes_within P rose up told script w.0 end now w.2; closes = closes_within R rose rise end c.0 result c.2 },
   )
