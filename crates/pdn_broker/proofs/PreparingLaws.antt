@@ -1,5 +1,7 @@
 -- What is known of a query that is made ready, and of why it isn't.
 use Rattle.std.proofs.Common.{◌≡◌, ℕ, ◌+◌, ◌-◌, ◌<◌, Bool, true, false, List, [], ◌∷◌, ◌++◌, length, get_or, map, take, refl, sym, ap, ap₂, ◌∙◌, subst, arith, length-append, Option, Some, None, Result, Ok, Err}
+use Rattle.std.specs.Prelude.{IfErr}
+use Rattle.std.specs.Result.{IsErrAnd}
 use Rattle.std.specs.List.{flat_map}
 use Rattle.std.proofs.lemmas.List.{get_or_at, map-append, take_more}
 use Rattle.pdn_base.specs.declared.marks.Kind.{Kind}
@@ -42,6 +44,10 @@ pub dirs_next : (a b : List Rows) (segments : List SegmentModel) (i : ℕ) (d : 
 dirs_next a b segments i d h = ap (site_dirs a b) (take_more segments i d h) ∙ map-append (λ (s : SegmentModel). record { a = directory a s.leaves; b = directory b s.leaves }) (take i segments) (get_or segments i d ∷ [])
 
 -- ---- refusals
+
+pub memory_refused : {X : Type 0} (schema : SchemaModel) (root : Node) (a b : List Rows) (result : Result X PrepareErr) → IsErrAnd result (λ e. e ≡ err.Memory) → IfErr result (IsNotPrepared schema root a b)
+memory_refused schema root a b (Ok x) h = absurd h
+memory_refused schema root a b (Err e) h = subst (IsNotPrepared schema root a b) (sym h) tt
 
 pub refused_a : (schema : SchemaModel) (root : Node) (a b : List Rows) (e : PrepareErr) → IsRefusedAt A schema a e → IsNotPrepared schema root a b e
 refused_a schema root a b (err.Rows A table cause) h = h.1

@@ -292,7 +292,7 @@ fn together(engines: BothEngines, made: PublicUnits, ends: Ends) -> Prepared
 /// Makes the plan of a query ready to be answered over both sites' tables, which stand in the order of the schema.
 ///
 /// A table that isn't valid is refused, A's before B's, and then what passes a limit.
-#[tactic(auto, using(crate::proofs::PreparingLaws::all_ready, crate::proofs::PreparingLaws::all_made_of, crate::proofs::PreparingLaws::engines_refused))]
+#[tactic(auto, using(crate::proofs::PreparingLaws::all_made_of, crate::proofs::PreparingLaws::engines_refused))]
 pub fn prepare(
     alloc: Global,
     schema: &Schema,
