@@ -139,7 +139,9 @@ fn held<K: SiteKeeper>(
 fn batches_are_new_again_differing_or_over_a_bound(rt: HostRuntime) -> Result<(), Fail> {
     let alloc = rt.alloc();
     let schema = schema_of(alloc, LARGE)?;
-    let [none, eight, nine] = [ones(alloc, 0)?, ones(alloc, 8)?, ones(alloc, 9)?];
+    let none = ones(alloc, 0)?;
+    let eight = ones(alloc, 8)?;
+    let nine = ones(alloc, 9)?;
     let first = visits(alloc, 7, &[1, 2, 3])?;
     let more = visits(alloc, 7, &[4, 5])?;
     let changed = visits(alloc, 7, &[1, 9, 3])?;
@@ -188,7 +190,8 @@ fn kept_rows_may_be_past_a_schema_that_shrank(rt: HostRuntime) -> Result<(), Fai
         "version 1\nfloor 3\ntable t rows 2\ncolumn c int private\nend\n",
     )?;
     let wide = schema_of(alloc, SMALL)?;
-    let [three, none] = [ones(alloc, 3)?, ones(alloc, 0)?];
+    let three = ones(alloc, 3)?;
+    let none = ones(alloc, 0)?;
     let mut site = MemSite::new(Vec::new(alloc), Vec::new(alloc));
     let new = answer(alloc, &mut site, &wide, 0, 0, &three)?;
     assert_eq!(rt; new.as_str(), "new");
