@@ -115,7 +115,7 @@ fn words_of(alloc: Global, line: &[u8]) -> Result<Vec<String>, CaseErr> {
     if line.is_empty() {
         return Ok(words);
     }
-    let Ok(line) = core::str::from_utf8(line) else {
+    let Ok(line) = std::str::from_utf8(line) else {
         return Err(CaseErr::Unreadable("words"));
     };
     for word in line.split(' ') {
@@ -145,11 +145,11 @@ fn fails_of(alloc: Global, text: &[u8]) -> Result<Fails, CaseErr> {
     for line in lines_of(alloc, text)? {
         let (object, call) = parted(line).ok_or(CaseErr::Unreadable("fails"))?;
         match object {
-            b"files" => fails.files.push(u64::from(call))?,
-            b"site a" => fails.site_a.push(u64::from(call))?,
-            b"site b" => fails.site_b.push(u64::from(call))?,
-            b"sink" => fails.sink.push(u64::from(call))?,
-            b"room" => fails.room = call as usize,
+            "files" => fails.files.push(u64::from(call))?,
+            "site a" => fails.site_a.push(u64::from(call))?,
+            "site b" => fails.site_b.push(u64::from(call))?,
+            "sink" => fails.sink.push(u64::from(call))?,
+            "room" => fails.room = call as usize,
             _ => return Err(CaseErr::Unreadable("fails")),
         }
     }
@@ -157,9 +157,9 @@ fn fails_of(alloc: Global, text: &[u8]) -> Result<Fails, CaseErr> {
 }
 
 // A line up to its last blank, and the number behind it.
-fn parted(line: &[u8]) -> Option<(&[u8], u32)> {
-    let blank = line.iter().rposition(|byte| *byte == b' ')?;
-    Some((&line[..blank], number(&line[blank + 1..])?))
+fn parted(line: &[u8]) -> Option<(&str, u32)> {
+    let (object, call) = std::str::from_utf8(line).ok()?.rsplit_once(' ')?;
+    Some((object, number(call.as_bytes())?))
 }
 
 // Each line of `ones` is a ticket, a unit, and how many words of their section are ones.

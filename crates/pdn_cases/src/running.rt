@@ -25,7 +25,7 @@ impl Outcome {
 
     /// The text that came.
     pub fn text(&self) -> &str {
-        core::str::from_utf8(&self.bytes).unwrap_or("(no text)")
+        std::str::from_utf8(&self.bytes).unwrap_or("(no text)")
     }
 }
 
