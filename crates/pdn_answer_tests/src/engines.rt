@@ -1,29 +1,22 @@
+//! What a site's engine tells of its rows, and enters into units.
 ghost use Rattle.std.specs.Prelude.{◌≡◌, ◌<◌, ◌-◌, ◌^◌, length, get_or, IfOk};
 ghost use Rattle.std.specs.List.{All};
 ghost use Rattle.pdn_base.specs.Operators.{Rows as RowsModel};
 ghost use Rattle.pdn_site.specs.Engines.{no_unit, segment_number};
+ghost use Rattle.pdn_site.specs.declared.unit.UnitKind.TheVariants as kind;
 
-use crate::{SiteEngine, SiteErr, Unit, UnitKind, Units};
-use pdn_base::{
-    Clause, Cmp, Cond, Memory, Op, Operand, Row, Rows, RowsErr, Site, Tables, Term, Value,
-};
+use crate::plans::{plan_of, schema_of};
+use pdn_base::{Memory, Row, Rows, RowsErr, Site, Tables, Value, Word};
 use pdn_level::levels;
-use pdn_plan::{Node, Plan};
-use pdn_schema::{Schema, read_schema};
-use sqlite_items::{Boxed, Items};
+use pdn_site::{SiteEngine, SiteErr, Unit, UnitKind, Units};
 use std::alloc::Global;
 use std::test::Fail;
 
 const SCHEMA: &str =
-    "version 1\nfloor 3\ntable visit rows 8\ncolumn pid int public per 4\ncolumn day int private\nend\n";
+    "version 1\nfloor 3\ntable visit rows 8\ncolumn pid int public per 4\ncolumn day int public per 4\nend\n";
 
-fn schema_of(alloc: Global, text: &str) -> Result<Schema, Memory> {
-    if text.len() < 1_000 {
-        read_schema(alloc, text.as_bytes()).map_err(|_| Memory)
-    } else {
-        Err(Memory)
-    }
-}
+/// The visits before day 9, each once: a segment of one table, sliced by its patients.
+const EARLY: &str = "SELECT DISTINCT pid, day FROM visit WHERE day < 9;";
 
 /// One table, of rows of numbers.
 fn tables_of(alloc: Global, table: &[&[u32]]) -> Result<Tables, Memory>
@@ -45,43 +38,12 @@ fn tables_of(alloc: Global, table: &[&[u32]]) -> Result<Tables, Memory>
     Ok(Tables { lists })
 }
 
-/// The visits before day 9, each once: a segment of one table, sliced by its patients.
-fn early_visits(alloc: Global) -> Result<Plan, Memory> {
-    let mut any = Vec::new(alloc);
-    any.push(Cmp {
-        left: Term {
-            column: 1,
-            plus: None,
-        },
-        op: Op::Lt,
-        right: Operand::Int(9),
-    })?;
-    let mut all = Vec::new(alloc);
-    all.push(Clause { any })?;
-    let early = Node::Filter {
-        child: Boxed::new(alloc, Node::Scan { table: 0 })?,
-        cond: Cond { all },
-    };
-    let once = Node::Distinct {
-        child: Boxed::new(alloc, early)?,
-    };
-    let root = Node::Top {
-        child: Boxed::new(alloc, once)?,
-        order: Items::new(alloc),
-        limit: None,
-    };
-    Ok(Plan {
-        root,
-        columns: Vec::new(alloc),
-    })
-}
-
 /// The engine of site A over one table, with the plan's one segment.
 fn engine_of(alloc: Global, table: &[&[u32]]) -> Result<SiteEngine, SiteErr>
     ensures { IfOk result (λ engine. length engine.staged ≡ 1) }
 {
     let schema = schema_of(alloc, SCHEMA)?;
-    let plan = early_visits(alloc)?;
+    let plan = plan_of(alloc, &schema, EARLY)?;
     let staged = levels(alloc, &schema, &plan)?;
     let tables = tables_of(alloc, table)?;
     if tables.lists.len() != schema.tables.len() || staged.segments.len() != 1 {
@@ -131,6 +93,45 @@ fn unit_of_seven(alloc: Global) -> Result<Units, Memory>
     Ok(Units { units })
 }
 
+/// A unit that a site alone works out, of patient 7, and the root.
+fn plain_and_root(alloc: Global) -> Result<Units, Memory>
+    ensures count { IfOk result (λ units. length units ≡ 2) }
+    ensures root { IfOk result (λ units. (get_or units 1 no_unit).kind ≡ kind.Root) }
+{
+    let mut units = Vec::new(alloc);
+    units.push(Unit {
+        kind: UnitKind::Plain(Site::A),
+        segment: Some(0),
+        value: Some(Value::Int(7)),
+        len: 4,
+        circuit: None,
+    })?;
+    units.push(Unit {
+        kind: UnitKind::Root,
+        segment: None,
+        value: None,
+        len: 4,
+        circuit: None,
+    })?;
+    Ok(Units { units })
+}
+
+/// The words of two visits of patient 7, on the days 1 and 3, by their places; the others are 0.
+const TWO_VISITS: [(usize, u64); 6] = [(0, 3), (1, 3), (2, 3), (3, 3), (33, 3), (34, 2)];
+
+/// Whether words are 65, and those of two visits.
+fn are_two_visits(words: &[Word]) -> bool {
+    let mut same = words.len() == 65;
+    for (place, word) in words.iter().enumerate() {
+        let wanted = TWO_VISITS
+            .iter()
+            .find(|(at, _)| *at == place)
+            .map_or(0, |(_, lanes)| *lanes);
+        same = same && word.to_u64() == wanted;
+    }
+    same
+}
+
 #[test]
 fn a_site_enters_its_own_rows_of_the_value_in_order(rt: HostRuntime) -> Result<(), Fail> {
     let alloc = rt.alloc();
@@ -138,16 +139,13 @@ fn a_site_enters_its_own_rows_of_the_value_in_order(rt: HostRuntime) -> Result<(
     let units = unit_of_seven(alloc)?;
     let rows = engine.plain_slice(alloc, &units, 0)?;
     assert!(rt; rows.rows.len() == 2);
-    let words = engine.secure_inputs(alloc, &units, 0)?;
-    assert!(rt; words.len() == 65);
-    let numbers = [
-        words[0].to_u64(),
-        words[1].to_u64(),
-        words[3].to_u64(),
-        words[4].to_u64(),
-        words[33].to_u64(),
-        words[34].to_u64(),
-    ];
-    assert!(rt; numbers.as_slice() == [3, 3, 3, 0, 3, 2].as_slice());
+    let secure = engine.secure_inputs(alloc, &units, 0)?;
+    assert!(rt; are_two_visits(&secure));
+    let entered = engine.unit_inputs(alloc, &units, 0)?;
+    assert!(rt; are_two_visits(&entered));
+    // the rows of the plain unit go into the root
+    let units = plain_and_root(alloc)?;
+    let root = engine.unit_inputs(alloc, &units, 1)?;
+    assert!(rt; are_two_visits(&root));
     Ok(())
 }

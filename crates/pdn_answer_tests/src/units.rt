@@ -2,14 +2,13 @@
 ghost use Rattle.std.specs.Prelude.{◌≡◌, ◌≤◌, []};
 ghost use Rattle.pdn_level.specs.Levels.{segments_of};
 
-use crate::budget::{Left, root_circuit};
-use crate::{CompileErr, PublicView, SegDirs, Unit, UnitKind, Units, compile};
+use crate::plans::{plan_of, schema_of};
 use pdn_base::{Memory, Site, Value};
-use pdn_circuit::{BuildErr, Circuit, Gate};
+use pdn_circuit::{Circuit, Gate};
 use pdn_level::{Staged, levels};
-use pdn_plan::{Plan, bind};
-use pdn_schema::{Schema, read_schema};
-use pdn_sql::read_queries;
+use pdn_plan::Plan;
+use pdn_schema::Schema;
+use pdn_site::{CompileErr, PublicView, SegDirs, Unit, UnitKind, Units, compile};
 use std::alloc::Global;
 use std::test::Fail;
 
@@ -26,25 +25,6 @@ type Dirs<'a> = (&'a [u32], &'a [u32]);
 
 // A circuit's words: those that it takes of A, of B and as given, its And gates, and the words that it gives.
 type Words = (usize, usize, usize, usize, usize);
-
-fn schema_of(alloc: Global, text: &str) -> Result<Schema, Memory> {
-    if text.len() < 1_000 {
-        read_schema(alloc, text.as_bytes()).map_err(|_| Memory)
-    } else {
-        Err(Memory)
-    }
-}
-
-fn plan_of(alloc: Global, schema: &Schema, sql: &str) -> Result<Plan, Memory> {
-    if 1_000 < sql.len() {
-        return Err(Memory);
-    }
-    let queries = read_queries(alloc, sql.as_bytes(), 16).map_err(|_| Memory)?;
-    match queries.first() {
-        Some(query) => bind(alloc, schema, query).map_err(|_| Memory),
-        None => Err(Memory),
-    }
-}
 
 fn values_of(alloc: Global, numbers: &[u32]) -> Result<Vec<Value>, Memory> {
     let mut values = Vec::new(alloc);
@@ -79,7 +59,7 @@ fn units_over(
     if view.dirs.len() != staged.segments.len() {
         return Err(CompileErr::Memory);
     }
-    compile(alloc, schema, plan, staged, &view)
+    compile(alloc, schema, plan, staged, &view.copy(alloc)?)
 }
 
 fn planned_units(
@@ -228,44 +208,10 @@ fn patients_of_two_hospitals_make_twelve_units_and_the_root(rt: HostRuntime) -> 
 
 #[test]
 fn a_list_of_too_many_rows_is_limit_1(rt: HostRuntime) -> Result<(), Fail> {
-    let joined = "SELECT a.y FROM wide a JOIN wide b ON a.x = b.x;";
-    let rows = units_of(rt.alloc(), HOSPITALS, joined, &[]);
-    assert!(rt; matches!(&rows, Err(CompileErr::TooLarge { limit: 1, unit: 0 })));
-    Ok(())
-}
-
-// The circuit of one count, where so many And gates and gates are left.
-fn one_count(alloc: Global, ands: u32, gates: u32) -> Result<Circuit, BuildErr>
-    requires { gates ≤ 16777216 }
-{
-    let Ok(schema) = schema_of(alloc, SMALL) else {
-        return Err(BuildErr::Memory);
-    };
-    let Ok(plan) = plan_of(alloc, &schema, "SELECT COUNT(*) FROM t WHERE c = 5;") else {
-        return Err(BuildErr::Memory);
-    };
-    let left = Left {
-        unit: 0,
-        ands,
-        gates,
-    };
-    root_circuit(alloc, &schema, &[], &plan.root, &left)
-}
-
-#[test]
-fn a_circuit_may_use_up_what_is_left_and_no_more(rt: HostRuntime) -> Result<(), Fail> {
     let alloc = rt.alloc();
-    let whole = one_count(alloc, 96, 16_777_216).map_err(|_| Memory)?;
-    let gates = whole.gates.len();
-    assert!(rt; 97 < gates && gates < 1_000);
-    let gates = gates as u32;
-    assert!(rt; one_count(alloc, 96, gates).is_ok());
-    let ands = one_count(alloc, 95, gates);
-    assert!(rt; matches!(&ands, Err(BuildErr::Full { limit: 2 })));
-    let few = one_count(alloc, 96, gates.saturating_sub(1));
-    // the last gate is an And gate, which passes limit 3 alone
-    assert!(rt; matches!(&few, Err(BuildErr::Full { limit: 3 })));
-    let both = one_count(alloc, 95, gates.saturating_sub(1));
-    assert!(rt; matches!(&both, Err(BuildErr::Full { limit: 2 })));
+    // 512 times 512 rows
+    let joined = "SELECT a.y FROM wide a JOIN wide b ON a.x = b.x;";
+    let rows = units_of(alloc, HOSPITALS, joined, &[]);
+    assert!(rt; matches!(&rows, Err(CompileErr::TooLarge { limit: 1, unit: 0 })));
     Ok(())
 }

@@ -1,6 +1,8 @@
 pub mod WordLaws
 pub mod WordLists
-pub mod LaneLaws
+pub mod ShiftLaws
+pub mod LaneLists
+pub mod StepLaws
 pub mod FileMaps
 pub mod CodeLaws
 pub mod RowLaws

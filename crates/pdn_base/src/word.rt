@@ -6,44 +6,22 @@ ghost use Rattle.pdn_base.specs.Words.{◌⊕◌, ◌⊗◌, spread, moved};
 use std::marker::Model;
 
 /// 64 lanes, each true or false.
-#[derive(Clone, Copy, Debug)]
+#[derive(Clone, Copy, Debug, PartialEq, Eq)]
 pub struct Word {
-    lanes: [bool; 64],
+    pub(crate) bits: u64,
 }
 
 impl Model for Word {
-    ghost use Rattle.std.specs.Prelude.{ℕ, length, ◌≡◌};
-    ghost use Rattle.pdn_base.specs.Lanes.{number_of, lanes_of, lanes_of-number_of};
-    ghost use Rattle.std.proofs.Common.{ap};
+    ghost use Rattle.std.specs.Prelude.{ℕ};
+    ghost use Rattle.std.proofs.Common.{refl};
 
     ghost Value = { ℕ };
 
-    ghost view = { λ w. number_of w.lanes };
+    ghost view = { λ w. w.bits };
 
-    ghost invariant = { λ w. length w.lanes ≡ 64 };
+    ghost inverse = { λ n. record { bits = n } };
 
-    ghost inverse = { λ n. record { lanes = lanes_of 64 n } };
-
-    ghost inverse_ok = { λ a h. ap (λ lanes. record { lanes = lanes }) (lanes_of-number_of a.lanes h) };
-}
-
-impl PartialEq for Word {
-    ghost use Rattle.std.specs.Prelude.{nat_eq};
-    ghost use Rattle.std.specs.Cmp.{partial_equiv_from_equiv, nat_eq_equiv};
-
-    ghost eq = { nat_eq };
-
-    ghost laws = { partial_equiv_from_equiv nat_eq_equiv };
-
-    fn eq(&self, other: &Word) -> bool {
-        self.to_u64() == other.to_u64()
-    }
-}
-
-impl Eq for Word {
-    ghost use Rattle.std.specs.Cmp.{nat_eq_equiv};
-
-    ghost laws = { nat_eq_equiv };
+    ghost inverse_ok = { λ a h. refl };
 }
 
 impl Word {
@@ -51,22 +29,14 @@ impl Word {
     pub fn from_u64(bits: u64) -> Word
         ensures { result ≡ bits }
     {
-        let mut lanes = [false; 64];
-        for lane in 0..64 {
-            lanes[lane] = (bits >> lane) & 1 == 1;
-        }
-        Word { lanes }
+        Word { bits }
     }
 
     /// The number whose bit l is lane l.
     pub fn to_u64(&self) -> u64
         ensures { result ≡ self.now }
     {
-        let mut bits = 0;
-        for lane in 0..64 {
-            bits = bits * 2 + u64::from(self.lanes[63 - lane]);
-        }
-        bits
+        self.bits
     }
 
     /// One lane, from 0 to 63.
@@ -74,29 +44,25 @@ impl Word {
         requires { lane < 64 }
         ensures { result ≡ (bit_at self.now lane == 1) }
     {
-        self.lanes[usize::from(lane)]
+        (self.bits >> lane) & 1 == 1
     }
 
     /// The lanes in which just one of the two words is true.
     pub fn xor(&self, other: &Word) -> Word
         ensures { result ≡ self.now ⊕ other.now }
     {
-        let mut lanes = [false; 64];
-        for lane in 0..64 {
-            lanes[lane] = self.lanes[lane] != other.lanes[lane];
+        Word {
+            bits: self.bits ^ other.bits,
         }
-        Word { lanes }
     }
 
     /// The lanes in which both words are true.
     pub fn and(&self, other: &Word) -> Word
         ensures { result ≡ self.now ⊗ other.now }
     {
-        let mut lanes = [false; 64];
-        for lane in 0..64 {
-            lanes[lane] = self.lanes[lane] & other.lanes[lane];
+        Word {
+            bits: self.bits & other.bits,
         }
-        Word { lanes }
     }
 
     /// One lane in all lanes.
@@ -105,26 +71,38 @@ impl Word {
         requires { lane < 64 }
         ensures { result ≡ spread self.now lane }
     {
-        let chosen = self.lanes[usize::from(lane)];
-        let mut lanes = [false; 64];
-        for lane in 0..64 {
-            lanes[lane] = chosen;
-        }
-        Word { lanes }
+        let bits = if (self.bits >> lane) & 1 == 1 {
+            u64::MAX
+        } else {
+            0
+        };
+        Word { bits }
     }
 
     /// `count` lanes, which begin at lane `from`, now begin at `to`; the others are false.
-    #[tactic(auto, unfolding(crate::specs::Words::moved))]
     pub fn move_lanes(&self, from: u8, count: u8, to: u8) -> Word
         requires some { 1 ≤ count }
         requires from { from + count ≤ 64 }
         requires to { to + count ≤ 64 }
         ensures { result ≡ moved self.now from count to }
     {
-        let mut placed = [false; 64];
-        for lane in 0..count {
-            placed[usize::from(to + lane)] = self.lanes[usize::from(from + lane)];
+        Word {
+            bits: moved_bits(self.bits, from, count, to),
         }
-        Word { lanes: placed }
+    }
+}
+
+// Some bits moved, the others 0.
+#[tactic(auto, unfolding(crate::specs::Words::moved))]
+fn moved_bits(bits: u64, from: u8, count: u8, to: u8) -> u64
+    requires some { 1 ≤ count }
+    requires from { from + count ≤ 64 }
+    requires to { to + count ≤ 64 }
+    ensures { result ≡ moved bits from count to }
+{
+    if count == 64 {
+        bits
+    } else {
+        ((bits >> from) & ((1u64 << count) - 1)) << to
     }
 }

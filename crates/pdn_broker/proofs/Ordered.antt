@@ -9,11 +9,11 @@ use Rattle.pdn_base.specs.Operators.{Rows, SameRows, placed, listed, limited, to
 use Rattle.pdn_base.proofs.BagLaws.{Perm-from_bag}
 use Rattle.pdn_base.proofs.RowLaws.{same_row-tests}
 use Rattle.pdn_base.proofs.Listing.{listed-perm}
-use Rattle.pdn_plan.specs.declared.node.Node.{Node, out-Node, fold-roll-Node, out-roll-Node}
-use Rattle.pdn_plan.specs.declared.node.Node.TheOpen.{Node-F}
-use Rattle.pdn_plan.specs.declared.node.Node.TheFolds.{ind-Node, map-Node}
-use Rattle.pdn_plan.specs.Meaning.{mean, mean_step}
-use Rattle.pdn_plan.specs.Shapes.{is_top, is_top_layer}
+use Rattle.pdn_tree.specs.declared.node.Node.{Node, out-Node, fold-roll-Node, out-roll-Node}
+use Rattle.pdn_tree.specs.declared.node.Node.TheOpen.{Node-F}
+use Rattle.pdn_tree.specs.declared.node.Node.TheFolds.{ind-Node, map-Node}
+use Rattle.pdn_tree.specs.Meaning.{mean, mean_step}
+use Rattle.pdn_tree.specs.Shapes.{is_top, is_top_layer}
 use Rattle.pdn_broker.specs.Answering.{order_of, top_order}
 
 module _ (order : List Key) where

@@ -1,5 +1,7 @@
 -- What is known of a query that is made ready, and of why it isn't.
 use Rattle.std.proofs.Common.{◌≡◌, ℕ, ◌+◌, ◌-◌, ◌<◌, Bool, true, false, List, [], ◌∷◌, ◌++◌, length, get_or, map, take, refl, sym, ap, ap₂, ◌∙◌, subst, arith, length-append, Option, Some, None, Result, Ok, Err}
+use Rattle.std.specs.Prelude.{IfErr}
+use Rattle.std.specs.Result.{IsErrAnd}
 use Rattle.std.specs.List.{flat_map}
 use Rattle.std.proofs.lemmas.List.{get_or_at, map-append, take_more}
 use Rattle.pdn_base.specs.declared.marks.Kind.{Kind}
@@ -9,8 +11,8 @@ use Rattle.pdn_base.specs.declared.site.Site.TheVariants.{A, B}
 use Rattle.pdn_base.specs.Operators.{Rows}
 use Rattle.pdn_schema.specs.Models.{SchemaModel}
 use Rattle.pdn_schema.specs.Rows.{AreValid}
-use Rattle.pdn_plan.specs.declared.node.Node.{Node}
-use Rattle.pdn_plan.specs.Shapes.{kinds, shape, is_top}
+use Rattle.pdn_tree.specs.declared.node.Node.{Node}
+use Rattle.pdn_tree.specs.Shapes.{kinds, shape, is_top}
 use Rattle.pdn_circuit.specs.declared.gate.Gate.{Gate}
 use Rattle.pdn_circuit.specs.Building.{first_over, and_count}
 use Rattle.pdn_level.specs.Models.{SegmentModel}
@@ -25,13 +27,13 @@ use Rattle.pdn_site.specs.Compiling.{Shape, Compiled, unit_of, with_unit, fitted
 use Rattle.pdn_site.specs.Meaning.{numbers_fit}
 use Rattle.pdn_site.specs.NetMeaning.{slices_of, site_dirs}
 use Rattle.pdn_site.specs.Engines.{EngineModel, IsEngine, no_unit}
-use Rattle.pdn_site.specs.RootWords.{slices_in, root_inputs, SlicesMean}
+use Rattle.pdn_site.specs.RootWords.{slices_in, root_inputs}
 use Rattle.pdn_broker.specs.declared.preparing.PrepareErr.{PrepareErr}
 use Rattle.pdn_broker.specs.declared.preparing.PrepareErr.TheVariants as err
 use Rattle.pdn_broker.specs.Runs.{Both}
 use Rattle.pdn_broker.specs.Answering.{top_order, root_own}
 use Rattle.pdn_site.proofs.CompiledSlices.{slices_mean}
-use Rattle.pdn_broker.specs.Units.{AreUnits}
+use Rattle.pdn_broker.specs.Units.{AreUnits, UnitsStand}
 use Rattle.pdn_broker.specs.Prepared.{PreparedModel, IsPrepared, IsOf, IsNotPrepared, IsRefusedAt, AreEngines, AreTooLarge, compile_refusal}
 
 -- ---- directories
@@ -42,6 +44,10 @@ pub dirs_next : (a b : List Rows) (segments : List SegmentModel) (i : ℕ) (d : 
 dirs_next a b segments i d h = ap (site_dirs a b) (take_more segments i d h) ∙ map-append (λ (s : SegmentModel). record { a = directory a s.leaves; b = directory b s.leaves }) (take i segments) (get_or segments i d ∷ [])
 
 -- ---- refusals
+
+pub memory_refused : {X : Type 0} (schema : SchemaModel) (root : Node) (a b : List Rows) (result : Result X PrepareErr) → IsErrAnd result (λ e. e ≡ err.Memory) → IfErr result (IsNotPrepared schema root a b)
+memory_refused schema root a b (Ok x) h = absurd h
+memory_refused schema root a b (Err e) h = subst (IsNotPrepared schema root a b) (sym h) tt
 
 pub refused_a : (schema : SchemaModel) (root : Node) (a b : List Rows) (e : PrepareErr) → IsRefusedAt A schema a e → IsNotPrepared schema root a b e
 refused_a schema root a b (err.Rows A table cause) h = h.1
@@ -125,10 +131,10 @@ last_is_root schema root staged dirs units e =
 abbrev engine_of : Site → SchemaModel → Node → List SegmentModel → List Rows → EngineModel
 engine_of site schema root staged tables = record { site = site; schema = schema; root = root; staged = staged; tables = tables }
 
-abbrev ready : EngineModel → EngineModel → List UnitModel → List Kind → List Key → Both → PreparedModel
-ready a b units columns order own = record { a = a; b = b; units = units; columns = columns; order = order; own = own }
+abbrev ready : EngineModel → EngineModel → List Dirs → List UnitModel → List Kind → List Key → Both → PreparedModel
+ready a b dirs units columns order own = record { a = a; b = b; dirs = dirs; units = units; columns = columns; order = order; own = own }
 
-module _ (slices_mean : SlicesMean) (schema : SchemaModel) (root : Node) (a b : List Rows) (units : List UnitModel) where
+module _ (schema : SchemaModel) (root : Node) (a b : List Rows) (units : List UnitModel) where
   abbrev segments : List SegmentModel
   segments = segments_of schema root []
 
@@ -144,9 +150,12 @@ module _ (slices_mean : SlicesMean) (schema : SchemaModel) (root : Node) (a b : 
   own_same sound numbers made =
       ap (λ (ss : List (List Slice)). record { a = root_words A schema a ss root; b = root_words B schema b ss root }) (slices_mean schema a b root sound numbers units made)
 
-  ready_is : (columns : List Kind) (order : List Key) (own : Both) → IsEngine engine_a → IsEngine engine_b → (shape schema root).sound ≡ true → is_top root ≡ true → compiled schema root segments (site_dirs a b segments) ≡ Ok units
-      → columns ≡ kinds schema root → order ≡ top_order root → own ≡ record { a = root_inputs engine_a units; b = root_inputs engine_b units } → IsPrepared (ready engine_a engine_b units columns order own)
-  ready_is columns order own is_a is_b sound top made c o w = record {
+  ready_is : (dirs : List Dirs) (columns : List Kind) (order : List Key) (own : Both) → IsEngine engine_a → IsEngine engine_b → (shape schema root).sound ≡ true → is_top root ≡ true
+      → dirs ≡ site_dirs a b segments → compiled schema root segments (site_dirs a b segments) ≡ Ok units → UnitsStand units → columns ≡ kinds schema root → order ≡ top_order root
+      → own ≡ record { a = root_inputs engine_a units; b = root_inputs engine_b units } → IsPrepared (ready engine_a engine_b dirs units columns order own)
+  ready_is dirs columns order own is_a is_b sound top d made stand c o w = record {
+    site_a = refl;
+    site_b = refl;
     schema = refl;
     root = refl;
     staged_a = is_a;
@@ -156,25 +165,13 @@ module _ (slices_mean : SlicesMean) (schema : SchemaModel) (root : Node) (a b : 
     sound = sound;
     numbers = is_a.numbers;
     top = top;
+    dirs = d;
     units = made;
+    stand = stand;
     columns = c;
     order = o;
     own = w ∙ own_same sound is_a.numbers made;
   }
-
-pub prepared_is : SlicesMean → (schema : SchemaModel) (root : Node) (a b : List Rows) (staged : List SegmentModel) (dirs : List Dirs) (ea eb : EngineModel) (units : List UnitModel) (columns : List Kind) (order : List Key) (own : Both)
-    → staged ≡ segments_of schema root [] → ea ≡ record { site = A; schema = schema; root = root; staged = staged; tables = a } → eb ≡ record { site = B; schema = schema; root = root; staged = staged; tables = b }
-    → IsEngine ea → IsEngine eb → (shape schema root).sound ≡ true → is_top root ≡ true → dirs ≡ site_dirs ea.tables eb.tables staged → compiled schema root staged dirs ≡ Ok units
-    → columns ≡ kinds schema root → order ≡ top_order root → own ≡ record { a = root_inputs ea units; b = root_inputs eb units } → IsPrepared (record { a = ea; b = eb; units = units; columns = columns; order = order; own = own })
-prepared_is slices_mean schema root a b staged dirs ea eb units columns order own s e f is_a is_b sound top d made c o w =
-    let at_a : ea ≡ engine_of A schema root (segments_of schema root []) a = e ∙ ap (λ (ss : List SegmentModel). engine_of A schema root ss a) s in
-    let at_b : eb ≡ engine_of B schema root (segments_of schema root []) b = f ∙ ap (λ (ss : List SegmentModel). engine_of B schema root ss b) s in
-    let all : dirs ≡ site_dirs a b (segments_of schema root []) = d ∙ ap₂ (λ (x y : EngineModel). site_dirs x.tables y.tables staged) at_a at_b ∙ ap (site_dirs a b) s in
-    let compiled_all : compiled schema root (segments_of schema root []) (site_dirs a b (segments_of schema root [])) ≡ Ok units = sym (ap₂ (compiled schema root) s all) ∙ made in
-    let puts : own ≡ record { a = root_inputs (engine_of A schema root (segments_of schema root []) a) units; b = root_inputs (engine_of B schema root (segments_of schema root []) b) units }
-    = w ∙ ap₂ (λ (x y : EngineModel). record { a = root_inputs x units; b = root_inputs y units }) at_a at_b in
-    let at_both = ready_is slices_mean schema root a b units columns order own (subst IsEngine at_a is_a) (subst IsEngine at_b is_b) sound top compiled_all c o puts in
-    subst (λ (x : EngineModel). IsPrepared (ready x eb units columns order own)) (sym at_a) (subst (λ (y : EngineModel). IsPrepared (ready (engine_of A schema root (segments_of schema root []) a) y units columns order own)) (sym at_b) at_both)
 
 pub is_of : (schema : SchemaModel) (root : Node) (a b : List Rows) (staged : List SegmentModel) (p : PreparedModel) → p.a ≡ record { site = A; schema = schema; root = root; staged = staged; tables = a }
     → p.b ≡ record { site = B; schema = schema; root = root; staged = staged; tables = b } → IsOf schema root a b p
@@ -217,11 +214,18 @@ pub units_made : (schema : SchemaModel) (root : Node) (a b : List Rows) (staged 
     → compiled schema root staged dirs ≡ Ok units → AreUnits schema a b root units
 units_made schema root a b staged dirs units s d made = sym (ap₂ (compiled schema root) s (d ∙ ap (site_dirs a b) s)) ∙ made
 
-engines_ready : (schema : SchemaModel) (root : Node) (ea eb : EngineModel) (units : List UnitModel) (columns : List Kind) (order : List Key) (own : Both) → AreEngines schema root ea.tables eb.tables ea eb
-    → (shape schema root).sound ≡ true → is_top root ≡ true → AreUnits schema ea.tables eb.tables root units → columns ≡ kinds schema root → order ≡ top_order root
-    → own ≡ record { a = root_inputs ea units; b = root_inputs eb units } → IsPrepared (ready ea eb units columns order own)
-engines_ready schema root ea eb units columns order own en sound top made c o w =
-    prepared_is slices_mean schema root ea.tables eb.tables (segments_of schema root []) (site_dirs ea.tables eb.tables (segments_of schema root [])) ea eb units columns order own refl en.made_a en.made_b en.is_a en.is_b sound top refl made c o w
+pub dirs_made : (schema : SchemaModel) (root : Node) (a b : List Rows) (staged : List SegmentModel) (dirs : List Dirs) → staged ≡ segments_of schema root [] → dirs ≡ site_dirs a b staged → dirs ≡ site_dirs a b (segments_of schema root [])
+dirs_made schema root a b staged dirs s d = d ∙ ap (site_dirs a b) s
+
+engines_ready : (schema : SchemaModel) (root : Node) (ea eb : EngineModel) (dirs : List Dirs) (units : List UnitModel) (columns : List Kind) (order : List Key) (own : Both) → AreEngines schema root ea.tables eb.tables ea eb
+    → (shape schema root).sound ≡ true → is_top root ≡ true → dirs ≡ site_dirs ea.tables eb.tables (segments_of schema root []) → AreUnits schema ea.tables eb.tables root units → UnitsStand units
+    → columns ≡ kinds schema root → order ≡ top_order root → own ≡ record { a = root_inputs ea units; b = root_inputs eb units } → IsPrepared (ready ea eb dirs units columns order own)
+engines_ready schema root ea eb dirs units columns order own en sound top d made stand c o w =
+    let of_a : EngineModel = engine_of A schema root (segments_of schema root []) ea.tables in
+    let of_b : EngineModel = engine_of B schema root (segments_of schema root []) eb.tables in
+    let puts : own ≡ record { a = root_inputs of_a units; b = root_inputs of_b units } = w ∙ ap₂ (λ (x y : EngineModel). record { a = root_inputs x units; b = root_inputs y units }) en.made_a en.made_b in
+    let both = ready_is schema root ea.tables eb.tables units dirs columns order own (subst IsEngine en.made_a en.is_a) (subst IsEngine en.made_b en.is_b) sound top d made stand c o puts in
+    subst (λ (x : EngineModel). IsPrepared (ready x eb dirs units columns order own)) (sym en.made_a) (subst (λ (y : EngineModel). IsPrepared (ready of_a y dirs units columns order own)) (sym en.made_b) both)
 
 -- ---- a query that is prepared
 
@@ -237,10 +241,10 @@ engines_own schema root a b ea eb en = subst (λ (x : List Rows). AreEngines sch
 pub all_made_of : (schema : SchemaModel) (root : Node) (a b : List Rows) (ea eb : EngineModel) (p : PreparedModel) → AreEngines schema root a b ea eb → p.a ≡ ea → p.b ≡ eb → IsOf schema root a b p
 all_made_of schema root a b ea eb p en at_a at_b = is_of schema root a b (segments_of schema root []) p (at_a ∙ en.made_a) (at_b ∙ en.made_b)
 
-pub all_ready : (schema : SchemaModel) (root : Node) (a b : List Rows) (ea eb : EngineModel) (units : List UnitModel) (columns : List Kind) (order : List Key) (own : Both) → AreEngines schema root a b ea eb
-    → (shape schema root).sound ≡ true → is_top root ≡ true → AreUnits schema ea.tables eb.tables root units → columns ≡ kinds schema root → order ≡ top_order root
-    → own ≡ record { a = root_inputs ea units; b = root_inputs eb units } → IsPrepared (ready ea eb units columns order own)
-all_ready schema root a b ea eb units columns order own en sound top made c o w = engines_ready schema root ea eb units columns order own (engines_own schema root a b ea eb en) sound top made c o w
+pub all_ready : (schema : SchemaModel) (root : Node) (a b : List Rows) (ea eb : EngineModel) (dirs : List Dirs) (units : List UnitModel) (columns : List Kind) (order : List Key) (own : Both) → AreEngines schema root a b ea eb
+    → (shape schema root).sound ≡ true → is_top root ≡ true → dirs ≡ site_dirs ea.tables eb.tables (segments_of schema root []) → AreUnits schema ea.tables eb.tables root units → UnitsStand units
+    → columns ≡ kinds schema root → order ≡ top_order root → own ≡ record { a = root_inputs ea units; b = root_inputs eb units } → IsPrepared (ready ea eb dirs units columns order own)
+all_ready schema root a b ea eb dirs units columns order own en sound top d made stand c o w = engines_ready schema root ea eb dirs units columns order own (engines_own schema root a b ea eb en) sound top d made stand c o w
 
 refused_units : (schema : SchemaModel) (root : Node) (a b : List Rows) (e : PrepareErr) → AreValid schema a → AreValid schema b → AreTooLarge schema root a b e → IsNotPrepared schema root a b e
 refused_units schema root a b (err.Rows site table cause) va vb h = absurd h

@@ -7,12 +7,12 @@ use Rattle.pdn_base.specs.declared.site.Site.TheVariants.{A, B}
 use Rattle.pdn_base.specs.Operators.{Rows}
 use Rattle.pdn_schema.specs.Models.{SchemaModel}
 use Rattle.pdn_schema.specs.Rows.{AreValid}
-use Rattle.pdn_plan.specs.declared.node.Node.{Node}
-use Rattle.pdn_plan.specs.Shapes.{kinds, shape, is_top}
+use Rattle.pdn_tree.specs.declared.node.Node.{Node}
+use Rattle.pdn_tree.specs.Shapes.{kinds, shape, is_top}
 use Rattle.pdn_level.specs.Levels.{segments_of}
 use Rattle.pdn_site.specs.declared.unit.CompileErr.{CompileErr}
 use Rattle.pdn_site.specs.declared.unit.CompileErr.TheVariants as unit
-use Rattle.pdn_site.specs.Models.{UnitModel}
+use Rattle.pdn_site.specs.Models.{Dirs, UnitModel}
 use Rattle.pdn_site.specs.Compiling.{compiled}
 use Rattle.pdn_site.specs.Engines.{EngineModel, IsEngine, IsFirstRefused}
 use Rattle.pdn_site.specs.Meaning.{AreTables, numbers_fit}
@@ -21,19 +21,24 @@ use Rattle.pdn_broker.specs.declared.preparing.PrepareErr.{PrepareErr}
 use Rattle.pdn_broker.specs.declared.preparing.PrepareErr.TheVariants as err
 use Rattle.pdn_broker.specs.Runs.{Both}
 use Rattle.pdn_broker.specs.Answering.{top_order, root_own}
-use Rattle.pdn_broker.specs.Units.{AreUnits}
+use Rattle.pdn_broker.specs.Units.{AreUnits, UnitsStand}
 
--- the engines of both sites, the units, the kinds and the order of the answer, and both sites' words of the root
+-- the engines of both sites, both sites' directories of each segment, the units, the kinds and the order of the answer, and both
+-- sites' words of the root
 pub record PreparedModel : Type 0 where
   pub a : EngineModel
   pub b : EngineModel
+  pub dirs : List Dirs
   pub units : List UnitModel
   pub columns : List Kind
   pub order : List Key
   pub own : Both
 
--- both engines are of one schema and one plan, over valid tables; the units are those of both sites' directories
+-- One engine is A's and one is B's, of one schema and one plan, over valid tables; the units are those of both sites' directories,
+-- and each gate of their circuits stands after those that it reads.
 pub record IsPrepared (p : PreparedModel) : Type 0 where
+  pub site_a : p.a.site ≡ A
+  pub site_b : p.b.site ≡ B
   pub schema : p.b.schema ≡ p.a.schema
   pub root : p.b.root ≡ p.a.root
   pub staged_a : IsEngine p.a
@@ -43,7 +48,9 @@ pub record IsPrepared (p : PreparedModel) : Type 0 where
   pub sound : (shape p.a.schema p.a.root).sound ≡ true
   pub numbers : numbers_fit p.a.root ≡ true
   pub top : is_top p.a.root ≡ true
+  pub dirs : p.dirs ≡ site_dirs p.a.tables p.b.tables (segments_of p.a.schema p.a.root [])
   pub units : AreUnits p.a.schema p.a.tables p.b.tables p.a.root p.units
+  pub stand : UnitsStand p.units
   pub columns : p.columns ≡ kinds p.a.schema p.a.root
   pub order : p.order ≡ top_order p.a.root
   pub own : p.own ≡ root_own p.a.schema p.a.tables p.b.tables p.a.root

@@ -1,55 +1,83 @@
--- The runs of a prepared query's units, by the engines of both sites.
-use Rattle.std.specs.Prelude.{◌≡◌, ℕ, ◌<◌, ◌-◌, List, length, get_or, Some}
+-- The runs of a prepared query's units, each on its own section of a tape, and the answer.
+use Rattle.std.specs.Prelude.{◌≡◌, ℕ, ◌-◌, List, [], ◌∷◌, ◌++◌, length, get_or, map}
 use Rattle.std.specs.List.{flat_map}
-use Rattle.pdn_base.specs.Operators.{listed}
+use Rattle.pdn_base.specs.Operators.{Rows, listed}
 use Rattle.pdn_base.specs.Words.{xor_lists}
 use Rattle.pdn_schema.specs.Rows.{union}
-use Rattle.pdn_plan.specs.Meaning.{mean}
-use Rattle.pdn_circuit.specs.Gates.{Net, output_words}
+use Rattle.pdn_tree.specs.Meaning.{mean}
 use Rattle.pdn_obl_rows.specs.Lists.{valid_rows}
 use Rattle.pdn_obl_rows.specs.Encoding.{RowsAreOf, list_from}
-use Rattle.pdn_site.specs.declared.unit.UnitKind.TheVariants.{Secure}
+use Rattle.pdn_gmw.specs.Pairs.{Run}
 use Rattle.pdn_site.specs.Models.{UnitModel}
 use Rattle.pdn_site.specs.Laying.{list_words}
-use Rattle.pdn_site.specs.Engines.{EngineModel, no_unit, segment_number, value_of}
-use Rattle.pdn_site.specs.Engines.{secure_words as engine_words}
-use Rattle.pdn_broker.specs.Runs.{Both, Ran, Shared, world}
+use Rattle.pdn_site.specs.Engines.{EngineModel, no_unit, segment_number, value_of, secure_words}
+use Rattle.pdn_broker.specs.declared.answered.Answered.{Answered}
+use Rattle.pdn_broker.specs.Runs.{Both, Tape, section_at, run_on}
 use Rattle.pdn_broker.specs.Answering.{nothing_given}
-use Rattle.pdn_broker.specs.Units.{UnitsStand, gives_by, net_or}
-use Rattle.pdn_broker.specs.Prepared.{PreparedModel}
+use Rattle.pdn_broker.specs.Units.{net_or, secure_numbers, dealt_of}
+use Rattle.pdn_broker.specs.Prepared.{PreparedModel, IsPrepared}
 
--- the segment of a secure unit is one of so many
-abbrev pub IsPlaced : ℕ → UnitModel → Type 0
-IsPlaced count unit = unit.kind ≡ Secure → segment_number unit < count
+-- ---- units
 
-abbrev pub ArePlaced : ℕ → List UnitModel → Type 0
-ArePlaced count units = (k : ℕ) → k < length units → IsPlaced count (get_or units k no_unit)
+abbrev pub unit_at : PreparedModel → ℕ → UnitModel
+unit_at p u = get_or p.units u no_unit
+
+-- the root is the last unit
+abbrev pub root_number : PreparedModel → ℕ
+root_number p = length p.units - 1
+
+abbrev pub root_of : PreparedModel → UnitModel
+root_of p = unit_at p (root_number p)
 
 -- both sites' words of a secure unit, by their engines
 abbrev pub engines_own : EngineModel → EngineModel → UnitModel → Both
-engines_own a b unit = record { a = engine_words a (segment_number unit) (value_of unit); b = engine_words b (segment_number unit) (value_of unit) }
+engines_own a b unit = record { a = secure_words a (segment_number unit) (value_of unit); b = secure_words b (segment_number unit) (value_of unit) }
 
--- what a unit gives to the root, in plain
-unfoldable pub engines_give : EngineModel → EngineModel → UnitModel → List ℕ
-engines_give a b unit = gives_by unit.kind (output_words (world (engines_own a b unit) nothing_given).inputs (net_or unit.circuit))
+-- ---- runs
 
--- the root's circuit was run on these words, and its list has room for so many rows
-pub record RootRan (unit : UnitModel) (own given out : Both) (len : ℕ) : Type 0 where
-  pub net : Net
-  pub circuit : unit.circuit ≡ Some net
-  pub ran : Ran net own given out
-  pub long : len ≡ unit.len
+-- the run of a unit's circuit on these words, and on the section that is dealt for this ticket and the unit's number
+abbrev pub run_at : PreparedModel → Tape → ℕ → ℕ → Both → Both → Run
+run_at p tape ticket u own given = run_on (net_or (unit_at p u).circuit) (section_at tape (record { ticket = ticket; unit = u }) (net_or (unit_at p u).circuit)) own given
 
--- the secure units were run, and then the root on these words and on what they put out
-pub record AllRan (a b : EngineModel) (units : List UnitModel) (own out : Both) (len : ℕ) : Type 0 where
-  pub stand : UnitsStand units
-  pub given : Both
-  pub shares : Shared given.a given.b (flat_map (engines_give a b) units)
-  pub root : RootRan (get_or units (length units - 1) no_unit) own given out len
+-- the run of a secure unit, on both sites' words
+unfoldable pub secure_run : PreparedModel → Tape → ℕ → ℕ → Run
+secure_run p tape ticket u = run_at p tape ticket u (engines_own p.a p.b (unit_at p u)) nothing_given
+
+-- the runs of the secure units, in order
+abbrev pub secure_runs : PreparedModel → Tape → ℕ → List Run
+secure_runs p tape ticket = map (secure_run p tape ticket) (secure_numbers p.units)
+
+-- what each site's halves of these runs put out, one after the other
+abbrev pub outputs_of : List Run → Both
+outputs_of runs = record { a = flat_map (λ (run : Run). run.a.outputs) runs; b = flat_map (λ (run : Run). run.b.outputs) runs }
+
+-- the run of the root, on both sites' words and on what the halves of the secure units put out
+unfoldable pub root_run : PreparedModel → Tape → ℕ → Run
+root_run p tape ticket = run_at p tape ticket (root_number p) p.own (outputs_of (secure_runs p tape ticket))
+
+-- ---- the answer
+
+-- the words that the root's two outputs come to, and the rows that they hold
+abbrev pub opened_words : Run → List ℕ
+opened_words run = xor_lists run.a.outputs run.b.outputs
+
+abbrev pub opened_list : PreparedModel → Run → Rows
+opened_list p run = valid_rows (opened_words run) (list_from 0 p.columns (root_of p).len)
+
+-- An answer has the runs of the secure units and of the root, each on the section of this ticket and its own number, these numbers,
+-- and, in the query's order, the rows that the root's two outputs come to.
+pub record IsAnswered (p : PreparedModel) (tape : Tape) (ticket : ℕ) (answered : Answered) : Type 0 where
+  pub dealt : answered.dealt.items ≡ dealt_of ticket p.units
+  pub runs : answered.runs.items ≡ secure_runs p tape ticket ++ root_run p tape ticket ∷ []
+  pub rows : answered.rows ≡ listed p.order (opened_list p (root_run p tape ticket))
 
 -- the root's outputs are a list of so many rows, and in the query's order its rows are the plan's meaning over the union
-pub record Opened (p : PreparedModel) (len : ℕ) (out : Both) : Type 0 where
-  pub same : length out.b ≡ length out.a
-  pub count : length (xor_lists out.a out.b) ≡ list_words p.columns len
-  pub are : RowsAreOf p.columns (valid_rows (xor_lists out.a out.b) (list_from 0 p.columns len))
-  pub rows : listed p.order (valid_rows (xor_lists out.a out.b) (list_from 0 p.columns len)) ≡ mean (union p.a.tables p.b.tables) p.a.root
+pub record Opens (p : PreparedModel) (run : Run) : Type 0 where
+  pub same : length run.b.outputs ≡ length run.a.outputs
+  pub count : length (opened_words run) ≡ list_words p.columns (root_of p).len
+  pub are : RowsAreOf p.columns (opened_list p run)
+  pub rows : listed p.order (opened_list p run) ≡ mean (union p.a.tables p.b.tables) p.a.root
+
+-- Whatever the tape, a prepared query's root opens the plan's meaning over the union of both sites' tables.
+abbrev pub AnswersMean : Type 0
+AnswersMean = (p : PreparedModel) → IsPrepared p → (tape : Tape) (ticket : ℕ) → Opens p (root_run p tape ticket)

@@ -4,8 +4,8 @@ use Rattle.std.specs.List.{flat_map, range_with_len}
 use Rattle.pdn_base.specs.declared.value.Value.{Value}
 use Rattle.pdn_base.specs.Operators.{Rows}
 use Rattle.pdn_schema.specs.Models.{SchemaModel}
-use Rattle.pdn_plan.specs.declared.node.Node.{Node}
-use Rattle.pdn_plan.specs.Shapes.{shape}
+use Rattle.pdn_tree.specs.declared.node.Node.{Node}
+use Rattle.pdn_tree.specs.Shapes.{shape}
 use Rattle.pdn_circuit.specs.Gates.{Net, InOrder, output_words}
 use Rattle.pdn_level.specs.Levels.{segments_of}
 use Rattle.pdn_level.specs.Cutting.{slice_column}
@@ -77,7 +77,12 @@ abbrev pub CompiledTell : Type 0
 CompiledTell = (schema : SchemaModel) (a b : List Rows) (root : Node) → (shape schema root).sound ≡ true → numbers_fit root ≡ true → (units : List UnitModel) →
     AreUnits schema a b root units → UnitsStand units → UnitsTell schema a b root units
 
--- ---- sections
+-- ---- secure units, and sections
+
+abbrev pub is_secure : UnitKind → Bool
+is_secure (Plain site) = false
+is_secure Secure = true
+is_secure Root = false
 
 -- a section is dealt for each secure unit and for the root
 abbrev pub is_dealt : UnitKind → Bool
@@ -85,6 +90,14 @@ is_dealt (Plain site) = false
 is_dealt Secure = true
 is_dealt Root = true
 
--- the ticket with each of them, in unit order
+-- the numbers of those of the first so many units whose kind passes a test, ascending
+abbrev pub numbers_upto : (UnitKind → Bool) → List UnitModel → ℕ → List ℕ
+numbers_upto test units count = filter (λ u. test (get_or units u no_unit).kind) (range_with_len 0 count)
+
+-- the numbers of the secure units
+abbrev pub secure_numbers : List UnitModel → List ℕ
+secure_numbers units = numbers_upto is_secure units (length units)
+
+-- the ticket with each unit for which a section is dealt, in unit order
 abbrev pub dealt_of : ℕ → List UnitModel → List Dealt
-dealt_of ticket units = map (λ u. record { ticket = ticket; unit = u }) (filter (λ u. is_dealt (get_or units u no_unit).kind) (range_with_len 0 (length units)))
+dealt_of ticket units = map (λ u. record { ticket = ticket; unit = u }) (numbers_upto is_dealt units (length units))

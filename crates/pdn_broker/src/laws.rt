@@ -1,10 +1,10 @@
 //! What the runs of a query come to.
-ghost use Rattle.pdn_broker.specs.Answering.{AnswersMean};
+ghost use Rattle.pdn_broker.specs.Running.{AnswersMean};
 ghost use Rattle.pdn_broker.specs.Units.{CompiledTell};
 
-/// Two halves run each secure unit of a query on both sites' words, and then the root on both sites' words and the shares that they
-/// put out. Whatever words were dealt, the root's two outputs, put together, hold the rows that the plan means over the union of
-/// both sites' tables; and in the plan's order these are its meaning as a list.
+/// Two halves run each secure unit of a prepared query on both sites' words, and then the root on both sites' words and the shares
+/// that they put out, each on its own section of a tape. Whatever the tape, the root's two outputs, put together, hold the rows that
+/// the plan means over the union of both sites' tables; and in the plan's order these are its meaning as a list.
 pub fn answers_mean()
     ensures { AnswersMean }
 {}

@@ -9,11 +9,11 @@ mod prepared;
 mod preparing;
 mod shares;
 mod unit_run;
+mod units;
 
 pub use answered::{Answered, Dealt};
 pub use answering::answer;
 pub use laws::{answers_mean, compiled_units_tell};
-pub use opening::opened_rows;
 pub use prepared::Prepared;
 pub use preparing::{PrepareErr, prepare};
 pub use shares::Shares;

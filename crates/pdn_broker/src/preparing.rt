@@ -2,7 +2,7 @@
 ghost use Rattle.std.specs.Prelude.{◌≡◌, ◌<◌, ◌-◌, ◌^◌, true, length, get_or, [], IfOk, IfErr};
 ghost use Rattle.std.specs.List.{All};
 ghost use Rattle.pdn_base.specs.Operators.{Rows as RowsModel};
-ghost use Rattle.pdn_plan.specs.Shapes.{is_top, kinds, shape};
+ghost use Rattle.pdn_tree.specs.Shapes.{is_top, kinds, shape};
 ghost use Rattle.pdn_level.specs.Levels.{segments_of};
 ghost use Rattle.pdn_site.specs.declared.unit.UnitKind.TheVariants as kind;
 ghost use Rattle.pdn_site.specs.Engines.{IsEngine, no_unit};
@@ -10,16 +10,25 @@ ghost use Rattle.pdn_site.specs.NetMeaning.{site_dirs};
 ghost use Rattle.pdn_site.specs.RootWords.{root_inputs};
 ghost use Rattle.pdn_broker.specs.declared.preparing.PrepareErr.TheVariants.{Memory};
 ghost use Rattle.pdn_broker.specs.Answering.{top_order};
-ghost use Rattle.pdn_broker.specs.Prepared.{AreEngines, AreTooLarge, IsOf, IsPrepared, IsNotPrepared, IsRefusedAt, compile_refusal};
-ghost use Rattle.pdn_broker.specs.Units.{AreUnits};
+ghost use Rattle.pdn_broker.specs.Prepared.{
+  AreEngines,
+  AreTooLarge,
+  IsOf,
+  IsPrepared,
+  IsNotPrepared,
+  IsRefusedAt,
+  compile_refusal,
+};
+ghost use Rattle.pdn_broker.specs.Units.{AreUnits, UnitsStand};
 
 use crate::prepared::Prepared;
 use crate::shares::Shares;
+use crate::units::look_at_units;
 use pdn_base::{Key, Kind, Memory, RowsErr, Site, Tables};
 use pdn_level::{Staged, levels};
-use pdn_plan::{Node, Plan};
 use pdn_schema::Schema;
 use pdn_site::{CompileErr, PublicView, SegDirs, SiteEngine, SiteErr, Units, compile, kinds_of};
+use pdn_tree::{Node, Plan};
 use std::alloc::Global;
 
 /// Why a query is not prepared: the first table of A, else of B, in the order of the schema, whose rows aren't valid, and why; else
@@ -64,6 +73,13 @@ struct BothEngines {
     b: SiteEngine,
 }
 
+/// What is public of both sites' rows, and the units that it makes.
+#[derive(Drop)]
+struct PublicUnits {
+    view: PublicView,
+    units: Units,
+}
+
 /// What an answer needs besides: the kinds of its columns, its order, and both sites' words of the root.
 #[derive(Drop)]
 struct Ends {
@@ -84,7 +100,13 @@ fn engine(
     requires staged { staged.now ≡ segments_of schema.now plan.now.root [] }
     requires count { length tables ≡ length schema.now.tables }
     requires few { All (λ (rows : RowsModel). length rows < 2 ^ 32 - 1) tables }
-    ensures made { IfOk result (λ engine. engine ≡ record { site = site; schema = schema.now; root = plan.now.root; staged = staged.now; tables = tables }) }
+    ensures made { IfOk result (λ engine. engine ≡ record {
+      site = site;
+      schema = schema.now;
+      root = plan.now.root;
+      staged = staged.now;
+      tables = tables;
+    }) }
     ensures is { IfOk result IsEngine }
     ensures refused { IfErr result (IsRefusedAt site schema.now tables) }
 {
@@ -108,6 +130,7 @@ fn public_view(
 {
     let mut dirs = Vec::new(alloc);
     for i in 0..staged.segments.len() {
+        // More segments than their numbers can tell.
         let Ok(segment) = u32::try_from(i) else {
             return Err(Memory);
         };
@@ -130,7 +153,8 @@ fn root_shares(
 ) -> Result<Shares, Memory>
     requires some { 0 < length units.now }
     requires last { (get_or units.now (length units.now - 1) no_unit).kind ≡ kind.Root }
-    ensures { IfOk result (λ own. own ≡ record { a = root_inputs a.now units.now; b = root_inputs b.now units.now }) }
+    ensures { IfOk result (λ own.
+        own ≡ record { a = root_inputs a.now units.now; b = root_inputs b.now units.now }) }
 {
     let root = units.units.len() as u64 - 1;
     let words_a = a.unit_inputs(alloc, units, root)?;
@@ -170,7 +194,8 @@ fn engines(
     requires count_b { length tables_b ≡ length schema.now.tables }
     requires few_a { All (λ (rows : RowsModel). length rows < 2 ^ 32 - 1) tables_a }
     requires few_b { All (λ (rows : RowsModel). length rows < 2 ^ 32 - 1) tables_b }
-    ensures made { IfOk result (λ engines. AreEngines schema.now plan.now.root tables_a tables_b engines.a engines.b) }
+    ensures made { IfOk result (λ engines.
+        AreEngines schema.now plan.now.root tables_a tables_b engines.a engines.b) }
     ensures refused { IfErr result (IsNotPrepared schema.now plan.now.root tables_a tables_b) }
 {
     let a = engine(alloc, Site::A, schema, plan, staged, tables_a)?;
@@ -178,8 +203,8 @@ fn engines(
     Ok(BothEngines { a, b })
 }
 
-/// The units that both sites' directories make.
-#[tactic(auto, using(crate::proofs::PreparingLaws::too_many, crate::proofs::PreparingLaws::units_made))]
+/// The directories of both sites, and the units that they make.
+#[tactic(auto, using(crate::proofs::PreparingLaws::too_many, crate::proofs::PreparingLaws::units_made, crate::proofs::PreparingLaws::dirs_made))]
 fn units_over(
     alloc: Global,
     schema: &Schema,
@@ -187,16 +212,21 @@ fn units_over(
     staged: &Staged,
     a: &SiteEngine,
     b: &SiteEngine,
-) -> Result<Units, PrepareErr>
+) -> Result<PublicUnits, PrepareErr>
     requires staged { staged.now ≡ segments_of schema.now plan.now.root [] }
     requires a { a.now.staged ≡ staged.now }
     requires b { b.now.staged ≡ staged.now }
-    ensures units { IfOk result (λ units. AreUnits schema.now a.now.tables b.now.tables plan.now.root units) }
+    ensures view { IfOk result (λ made.
+        made.view ≡ site_dirs a.now.tables b.now.tables (segments_of schema.now plan.now.root [])) }
+    ensures units { IfOk result (λ made.
+        AreUnits schema.now a.now.tables b.now.tables plan.now.root made.units) }
+    ensures stand { IfOk result (λ made. UnitsStand made.units) }
     ensures large { IfErr result (AreTooLarge schema.now plan.now.root a.now.tables b.now.tables) }
 {
     let view = public_view(alloc, staged, a, b)?;
     let units = compile(alloc, schema, plan, staged, &view)?;
-    Ok(units)
+    look_at_units(&units);
+    Ok(PublicUnits { view, units })
 }
 
 /// The kinds and the order of the answer, and both sites' words of the root.
@@ -211,7 +241,10 @@ fn ends_of(
     requires { AreUnits schema.now engines.now.a.tables engines.now.b.tables plan.now.root units.now }
     ensures columns { IfOk result (λ ends. ends.columns.items ≡ kinds schema.now plan.now.root) }
     ensures order { IfOk result (λ ends. ends.order.items ≡ top_order plan.now.root) }
-    ensures own { IfOk result (λ ends. ends.own ≡ record { a = root_inputs engines.now.a units.now; b = root_inputs engines.now.b units.now }) }
+    ensures own { IfOk result (λ ends. ends.own ≡ record {
+      a = root_inputs engines.now.a units.now;
+      b = root_inputs engines.now.b units.now;
+    }) }
 {
     let own = root_shares(alloc, units, &engines.a, &engines.b)?;
     let columns = kinds_of(alloc, schema, &plan.root)?;
@@ -232,15 +265,24 @@ fn look_at_plan(plan: &Plan)
 }
 
 /// All of these together.
-fn together(engines: BothEngines, units: Units, ends: Ends) -> Prepared
-    requires { IsPrepared (record { a = engines.a; b = engines.b; units = units; columns = ends.columns.items; order = ends.order.items; own = ends.own }) }
+fn together(engines: BothEngines, made: PublicUnits, ends: Ends) -> Prepared
+    requires { IsPrepared (record {
+      a = engines.a;
+      b = engines.b;
+      dirs = made.view;
+      units = made.units;
+      columns = ends.columns.items;
+      order = ends.order.items;
+      own = ends.own;
+    }) }
     ensures a { result.a ≡ engines.a }
     ensures b { result.b ≡ engines.b }
 {
     Prepared {
         a: engines.a,
         b: engines.b,
-        units,
+        view: made.view,
+        units: made.units,
         columns: ends.columns,
         order: ends.order,
         own: ends.own,
@@ -250,7 +292,7 @@ fn together(engines: BothEngines, units: Units, ends: Ends) -> Prepared
 /// Makes the plan of a query ready to be answered over both sites' tables, which stand in the order of the schema.
 ///
 /// A table that isn't valid is refused, A's before B's, and then what passes a limit.
-#[tactic(auto, using(crate::proofs::PreparingLaws::all_ready, crate::proofs::PreparingLaws::all_made_of, crate::proofs::PreparingLaws::engines_refused))]
+#[tactic(auto, using(crate::proofs::PreparingLaws::all_made_of, crate::proofs::PreparingLaws::engines_refused))]
 pub fn prepare(
     alloc: Global,
     schema: &Schema,
@@ -268,8 +310,8 @@ pub fn prepare(
 {
     let staged = levels(alloc, schema, plan)?;
     let engines = engines(alloc, schema, plan, &staged, tables_a, tables_b)?;
-    let units = units_over(alloc, schema, plan, &staged, &engines.a, &engines.b)?;
-    let ends = ends_of(alloc, schema, plan, &units, &engines)?;
+    let made = units_over(alloc, schema, plan, &staged, &engines.a, &engines.b)?;
+    let ends = ends_of(alloc, schema, plan, &made.units, &engines)?;
     look_at_plan(plan);
-    Ok(together(engines, units, ends))
+    Ok(together(engines, made, ends))
 }

@@ -8,7 +8,7 @@ use Rattle.pdn_circuit.specs.declared.gate.Gate.TheVariants.{Input, Given, Const
 use Rattle.pdn_circuit.specs.Gates.{NamesBelow, InOrder}
 use Rattle.pdn_circuit.specs.Depths.{IsAfter, InRounds, gate_depth, next_depths, depths_of}
 
-depths_stand : (gates : List Gate) (ds : List ℕ) (k : ℕ) → k < length ds → get_or (fold next_depths ds gates) k 0 ≡ get_or ds k 0
+pub depths_stand : (gates : List Gate) (ds : List ℕ) (k : ℕ) → k < length ds → get_or (fold next_depths ds gates) k 0 ≡ get_or ds k 0
 depths_stand [] ds k h = refl
 depths_stand (g ∷ gs) ds k h =
     let new : List ℕ = gate_depth ds g ∷ [] in

@@ -1,7 +1,9 @@
 pub mod ValueLaws
 pub mod DepthLaws
+pub mod DepthMeaning
 pub mod CountLaws
 pub mod Reading
+pub mod RunLaws
 pub mod PlainLaws
 pub mod CompareLaws
 pub mod Building

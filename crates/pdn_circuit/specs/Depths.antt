@@ -1,5 +1,5 @@
--- Rounds: when a gate's share can be known. Depths are the least that do.
-use Rattle.std.specs.Prelude.{ℕ, ◌+◌, ◌<◌, ◌≤◌, max, List, [], ◌∷◌, ◌++◌, length, slice_index, slice_index_or, map, take}
+-- Rounds: when a gate's share can be known, and depths, which are the least that do.
+use Rattle.std.specs.Prelude.{◌≡◌, ◌⊎◌, ℕ, ◌+◌, ◌<◌, ◌≤◌, max, List, [], ◌∷◌, ◌++◌, length, slice_index, slice_index_or, map, take}
 use Rattle.std.specs.List.{fold, range_with_len}
 use Rattle.pdn_circuit.specs.declared.gate.Gate.{Gate}
 use Rattle.pdn_circuit.specs.Gates.{ands, operands_of, InOrder}
@@ -30,6 +30,47 @@ and_rounds_from round from (g ∷ gs) = own_round g (round from) ++ and_rounds_f
 abbrev pub and_rounds : List Gate → List ℕ → List ℕ
 and_rounds gates rounds = and_rounds_from (slice_index rounds) 0 gates
 
+-- ---- the depth of an And gate, by what it means
+abbrev pub IsAnd : Gate → Type 0
+IsAnd (Input site index) = ⊥
+IsAnd (Given index) = ⊥
+IsAnd (Const word) = ⊥
+IsAnd (Xor a b) = ⊥
+IsAnd (And a b) = Unit {0}
+IsAnd (Spread a lane) = ⊥
+IsAnd (Move a from count to) = ⊥
+
+abbrev pub AndAt : List Gate → ℕ → Type 0
+AndAt gates k = (k < length gates) × ((other : Gate) → IsAnd (slice_index_or gates k other))
+
+abbrev pub Names : ℕ → Gate → Type 0
+Names i (Input site index) = ⊥
+Names i (Given index) = ⊥
+Names i (Const word) = ⊥
+Names i (Xor a b) = (i ≡ a) ⊎ (i ≡ b)
+Names i (And a b) = (i ≡ a) ⊎ (i ≡ b)
+Names i (Spread a lane) = i ≡ a
+Names i (Move a from count to) = i ≡ a
+
+-- gate j reads gate i
+abbrev pub IsRead : List Gate → ℕ → ℕ → Type 0
+IsRead gates i j = (j < length gates) × ((other : Gate) → Names i (slice_index_or gates j other))
+
+-- each reads the one before it, from gate i to gate j
+abbrev pub IsPath : List Gate → ℕ → List ℕ → ℕ → Type 0
+IsPath gates i [] j = IsRead gates i j
+IsPath gates i (m ∷ ms) j = IsRead gates i m × IsPath gates m ms j
+
+-- gate j reads gate i, at once or through further gates
+abbrev pub Below : List Gate → ℕ → ℕ → Type 0
+Below gates i j = (path : List ℕ) × IsPath gates i path j
+
+-- an And gate is deeper than each And gate below it, by one than some of them, and has depth 1 where there is none
+pub record IsDepth (gates : List Gate) (depth : ℕ → ℕ) : Type 0 where
+  pub above : (i k : ℕ) → AndAt gates i → AndAt gates k → Below gates i k → depth i < depth k
+  pub tight : (k : ℕ) → AndAt gates k → (depth k ≡ 1) ⊎ ((i : ℕ) × AndAt gates i × Below gates i k × (depth k ≡ depth i + 1))
+
+-- ---- the same as it is computed
 -- the longest chain of And gates that ends with this gate or below it
 abbrev pub gate_depth : List ℕ → Gate → ℕ
 gate_depth depths (Input site index) = 0

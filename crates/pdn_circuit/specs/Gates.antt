@@ -65,6 +65,15 @@ operands_of (Move a from count to) = []
 abbrev pub ands : List Gate → List Pair
 ands gates = flat_map operands_of gates
 
+abbrev pub is_and : Gate → Bool
+is_and (And a b) = true
+is_and (Input site index) = false
+is_and (Given index) = false
+is_and (Const word) = false
+is_and (Xor a b) = false
+is_and (Spread a lane) = false
+is_and (Move a from count to) = false
+
 abbrev pub is_input : Gate → Bool
 is_input (Input site index) = true
 is_input (Given index) = false

@@ -7,3 +7,4 @@ pub mod Building
 pub mod Builder
 pub mod Laying
 pub mod Meaning
+pub mod Evaluating

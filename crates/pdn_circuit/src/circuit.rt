@@ -1,8 +1,9 @@
 //! A circuit, and the words that it is evaluated on.
 ghost use Rattle.std.specs.Prelude.{◌≡◌, IfOk};
+ghost use Rattle.pdn_circuit.specs.Gates.{is_input_of, input_count, given_count};
 
 use crate::Gate;
-use pdn_base::{Memory, Word};
+use pdn_base::{Memory, Site, Word};
 use std::alloc::Global;
 use std::marker::Model;
 
@@ -36,6 +37,36 @@ impl Circuit {
             outputs,
             released: self.released,
         })
+    }
+
+    /// How many words of a site the circuit takes.
+    pub fn input_count(&self, site: Site) -> usize
+        ensures { result ≡ input_count site self.now.gates }
+    {
+        self.gates
+            .iter()
+            .filter(|gate| is_input_of(site, gate))
+            .count()
+    }
+
+    /// How many given words the circuit takes.
+    pub fn given_count(&self) -> usize
+        ensures { result ≡ given_count self.now.gates }
+    {
+        self.gates
+            .iter()
+            .filter(|gate| matches!(gate, Gate::Given { .. }))
+            .count()
+    }
+}
+
+fn is_input_of(site: Site, gate: &Gate) -> bool
+    ensures { result ≡ is_input_of site gate.now }
+{
+    match (site, gate) {
+        (Site::A, Gate::Input { site: Site::A, .. }) => true,
+        (Site::B, Gate::Input { site: Site::B, .. }) => true,
+        _ => false,
     }
 }
 

@@ -121,7 +121,7 @@ impl Builder {
         ensures made { TriesList self.old self.new (agree_gates x.now y.now) result }
         ensures there { GivesGates self.new result }
     {
-        let mut planes = Vec::new(self.allocator());
+        let mut planes = Vec::with_capacity(self.allocator(), x.len())?;
         for k in 0..x.len() {
             let agree = self.agree_plane(x[k], y[k])?;
             planes.push(agree)?;

@@ -1,7 +1,9 @@
 //! Evaluation in plain.
-ghost use Rattle.std.specs.Prelude.{◌≡◌, IfOk};
+ghost use Rattle.std.specs.Prelude.{◌≡◌, ◌<◌, length, take, IfOk, OnOk};
 ghost use Rattle.pdn_circuit.specs.Gates.{HasCounts, CanRead, gate_value, values};
+ghost use Rattle.pdn_circuit.specs.Evaluating.{Stands};
 
+use crate::joined::Run;
 use crate::{Circuit, Gate, Inputs};
 use pdn_base::{Memory, Site, Word};
 use std::alloc::Global;
@@ -12,11 +14,41 @@ pub fn eval(alloc: Global, circuit: &Circuit, inputs: &Inputs) -> Result<Vec<Wor
     ensures { IfOk result (λ words. words.items ≡ values inputs.now circuit.now.gates) }
 {
     let mut words = Vec::with_capacity(alloc, circuit.gates.len())?;
-    for gate in &circuit.gates {
-        let word = gate_word(gate, &words, inputs);
-        words.push(word)?;
+    while words.len() < circuit.gates.len() {
+        push_next(alloc, circuit, inputs, &mut words)?;
     }
     Ok(words)
+}
+
+// The words of the next gates: of a run of them, or of one.
+fn push_next(
+    alloc: Global,
+    circuit: &Circuit,
+    inputs: &Inputs,
+    words: &mut Vec<Word>,
+) -> Result<(), Memory>
+    requires counts { HasCounts circuit.now inputs.now }
+    requires stand { Stands inputs.now circuit.now.gates words.old.items }
+    requires more { length words.old.items < length circuit.now.gates }
+    ensures stand { OnOk result (Stands inputs.now circuit.now.gates words.new.items) }
+    ensures more { OnOk result (length words.old.items < length words.new.items) }
+{
+    match Run::from(circuit, words.len()) {
+        Some(run) => run.push(alloc, words),
+        None => push_one(circuit, inputs, words),
+    }
+}
+
+fn push_one(circuit: &Circuit, inputs: &Inputs, words: &mut Vec<Word>) -> Result<(), Memory>
+    requires counts { HasCounts circuit.now inputs.now }
+    requires stand { Stands inputs.now circuit.now.gates words.old.items }
+    requires more { length words.old.items < length circuit.now.gates }
+    ensures stand { OnOk result (Stands inputs.now circuit.now.gates words.new.items) }
+    ensures more { OnOk result (length words.old.items < length words.new.items) }
+{
+    let word = gate_word(&circuit.gates[words.len()], words.as_slice(), inputs);
+    words.push(word)?;
+    Ok(())
 }
 
 fn gate_word(gate: &Gate, words: &[Word], inputs: &Inputs) -> Word

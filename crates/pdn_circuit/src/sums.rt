@@ -74,7 +74,7 @@ fn literal_planes(alloc: Global, number: u32, width: usize) -> Result<Vec<u32>, 
     requires { width ≤ 32 }
     ensures { IfOk result (λ planes. planes.items ≡ literal_planes width number) }
 {
-    let mut planes = Vec::new(alloc);
+    let mut planes = Vec::with_capacity(alloc, width)?;
     for k in 0..width {
         planes.push((number >> k) & 1)?;
     }

@@ -1,8 +1,9 @@
-ghost use Rattle.std.specs.Prelude.{◌≡◌, ◌<◌, ◌≤◌, ◌+◌};
-ghost use Rattle.pdn_circuit.specs.Gates.{input_count, given_count, is_input_of};
+//! Single gates and blocks of gates, evaluated in plain, and bounds of gates.
+ghost use Rattle.std.specs.Prelude.{◌<◌, ◌≤◌, ◌+◌};
 
-use crate::{BuildErr, Builder, Circuit, Gate, Inputs, Pick, eval};
+use crate::lists::{of_a, words_of, words_on};
 use pdn_base::{Site, Word};
+use pdn_circuit::{BuildErr, Builder, Inputs, Pick};
 use std::alloc::Global;
 use std::test::Fail;
 
@@ -11,64 +12,9 @@ const EDGES: u64 = 0xc000_0001_8000_0003;
 // lanes 0, 32 and 63
 const SOME: u64 = 0x8000_0001_0000_0001;
 
-fn inputs(alloc: Global) -> Inputs {
-    Inputs {
-        a: Vec::new(alloc),
-        b: Vec::new(alloc),
-        given: Vec::new(alloc),
-    }
-}
-
-fn takes(circuit: &Circuit, site: Site) -> usize
-    ensures { result ≡ input_count site circuit.now.gates }
-{
-    match site {
-        Site::A => circuit
-            .gates
-            .iter()
-            .filter(|gate| is_input_of(Site::A, gate))
-            .count(),
-        Site::B => circuit
-            .gates
-            .iter()
-            .filter(|gate| is_input_of(Site::B, gate))
-            .count(),
-    }
-}
-
-fn is_input_of(site: Site, gate: &Gate) -> bool
-    ensures { result ≡ is_input_of site gate.now }
-{
-    match gate {
-        Gate::Input { site: other, .. } => site == *other,
-        _ => false,
-    }
-}
-
-fn takes_given(circuit: &Circuit) -> usize
-    ensures { result ≡ given_count circuit.now.gates }
-{
-    circuit
-        .gates
-        .iter()
-        .filter(|gate| matches!(gate, Gate::Given { .. }))
-        .count()
-}
-
-/// The words of all gates, where the inputs are as many as the circuit takes.
-fn words_of(alloc: Global, circuit: &Circuit, inputs: &Inputs) -> Result<Vec<u64>, Fail> {
-    let a = takes(circuit, Site::A) == inputs.a.len();
-    let b = takes(circuit, Site::B) == inputs.b.len();
-    let given = takes_given(circuit) == inputs.given.len();
-    if !a || !b || !given {
-        return Ok(Vec::new(alloc));
-    }
-    let words = eval(alloc, circuit, inputs)?;
-    let mut numbers = Vec::new(alloc);
-    for word in &words {
-        numbers.push(word.to_u64())?;
-    }
-    Ok(numbers)
+/// The word of a gate.
+fn word_at(words: &[Word], gate: u32) -> Option<u64> {
+    words.get(gate as usize).map(Word::to_u64)
 }
 
 fn spread_of(alloc: Global, word: u64, lane: u8) -> Result<Option<u64>, Fail>
@@ -77,21 +23,7 @@ fn spread_of(alloc: Global, word: u64, lane: u8) -> Result<Option<u64>, Fail>
     let mut b = Builder::new(alloc, 0, 8)?;
     let a = b.constant(Word::from_u64(word))?;
     let gate = b.spread(a, lane)?;
-    let circuit = b.finish(Vec::new(alloc), false);
-    let words = words_of(alloc, &circuit, &inputs(alloc))?;
-    Ok(words.get(gate as usize).copied())
-}
-
-#[test]
-fn a_lane_is_spread_from_its_own_place(rt: HostRuntime) -> Result<(), Fail> {
-    let alloc = rt.alloc();
-    assert!(rt; spread_of(alloc, EDGES, 63)? == Some(u64::MAX));
-    assert!(rt; spread_of(alloc, SOME, 62)? == Some(0));
-    assert!(rt; spread_of(alloc, SOME, 32)? == Some(u64::MAX));
-    assert!(rt; spread_of(alloc, SOME, 31)? == Some(0));
-    assert!(rt; spread_of(alloc, SOME, 1)? == Some(0));
-    assert!(rt; spread_of(alloc, SOME, 0)? == Some(u64::MAX));
-    Ok(())
+    Ok(word_at(&words_of(alloc, b, Vec::new(alloc))?, gate))
 }
 
 fn moved_of(alloc: Global, word: u64, from: u8, count: u8, to: u8) -> Result<Option<u64>, Fail>
@@ -102,14 +34,18 @@ fn moved_of(alloc: Global, word: u64, from: u8, count: u8, to: u8) -> Result<Opt
     let mut b = Builder::new(alloc, 0, 8)?;
     let a = b.constant(Word::from_u64(word))?;
     let gate = b.move_lanes(a, from, count, to)?;
-    let circuit = b.finish(Vec::new(alloc), false);
-    let words = words_of(alloc, &circuit, &inputs(alloc))?;
-    Ok(words.get(gate as usize).copied())
+    Ok(word_at(&words_of(alloc, b, Vec::new(alloc))?, gate))
 }
 
 #[test]
-fn lanes_are_moved_and_the_others_are_false(rt: HostRuntime) -> Result<(), Fail> {
+fn a_lane_is_spread_and_lanes_are_moved_from_their_own_places(rt: HostRuntime) -> Result<(), Fail> {
     let alloc = rt.alloc();
+    assert!(rt; spread_of(alloc, EDGES, 63)? == Some(u64::MAX));
+    assert!(rt; spread_of(alloc, SOME, 62)? == Some(0));
+    assert!(rt; spread_of(alloc, SOME, 32)? == Some(u64::MAX));
+    assert!(rt; spread_of(alloc, SOME, 31)? == Some(0));
+    assert!(rt; spread_of(alloc, SOME, 1)? == Some(0));
+    assert!(rt; spread_of(alloc, SOME, 0)? == Some(u64::MAX));
     assert!(rt; moved_of(alloc, EDGES, 62, 2, 0)? == Some(3));
     assert!(rt; moved_of(alloc, EDGES, 0, 2, 62)? == Some(0xc000_0000_0000_0000));
     assert!(rt; moved_of(alloc, EDGES, 31, 2, 31)? == Some(0x1_8000_0000));
@@ -147,12 +83,14 @@ fn inputs_of_both_sites_and_given_words_meet(rt: HostRuntime) -> Result<(), Fail
         b: vec![in alloc; Word::from_u64(SOME)]?,
         given: vec![in alloc; Word::from_u64(1)]?,
     };
-    let words = words_of(alloc, &copy, &inputs)?;
+    let words = words_on(alloc, &copy, &inputs)?;
     assert!(rt; copy.outputs.as_slice() == [6].as_slice());
     assert!(rt; copy.released);
-    assert!(rt;
-        words.as_slice() == [0, u64::MAX, EDGES, SOME, 1, SOME, 0x8000_0001_0000_0000].as_slice()
-    );
+    let wanted = [0, u64::MAX, EDGES, SOME, 1, SOME, 0x8000_0001_0000_0000];
+    assert_eq!(rt; words.len(), 7);
+    for (word, wanted) in words.iter().zip(wanted) {
+        assert_eq!(rt; word.to_u64(), wanted);
+    }
     Ok(())
 }
 
@@ -165,57 +103,55 @@ fn a_counter_takes_a_bit_and_rows_are_laid_out(rt: HostRuntime) -> Result<(), Fa
     let bit = b.constant(Word::from_u64(0b1111))?;
     let sums = b.add_bit(&[low, high], bit)?;
     assert!(rt; sums.as_slice() == [5, 7].as_slice());
+    let pick = |list, row, gate| Pick { list, row, gate };
     let picks = [
-        Pick {
-            list: 0,
-            row: 1,
-            gate: high,
-        },
-        Pick {
-            list: 0,
-            row: 1,
-            gate: high,
-        },
-        Pick {
-            list: 1,
-            row: 0,
-            gate: low,
-        },
-        Pick {
-            list: 1,
-            row: 1,
-            gate: low,
-        },
-        Pick {
-            list: 1,
-            row: 2,
-            gate: low,
-        },
+        pick(0, 1, high),
+        pick(0, 1, high),
+        pick(1, 0, low),
+        pick(1, 1, low),
+        pick(1, 2, low),
     ];
     let laid = b.lay(&picks)?;
     assert!(rt; laid.as_slice() == [11].as_slice());
-    let circuit = b.finish(laid, false);
-    let words = words_of(alloc, &circuit, &inputs(alloc))?;
-    assert!(rt; words.len() == 12);
+    let words = words_of(alloc, b, Vec::new(alloc))?;
     // the counter's lanes 0 to 3 held 3, 2, 1 and 0, and now hold 0, 3, 2 and 1
-    assert!(rt; words[5] == 0xa);
-    assert!(rt; words[7] == 0x6);
+    assert!(rt; word_at(&words, 5) == Some(0xa));
+    assert!(rt; word_at(&words, 7) == Some(0x6));
     // rows 1 and 1 of the first list, and rows 0 to 2 of the second
-    assert!(rt; words[11] == 0b10111);
+    assert!(rt; word_at(&words, 11) == Some(0b10111));
     Ok(())
 }
 
 #[test]
-fn numbers_are_compared_lane_by_lane(rt: HostRuntime) -> Result<(), Fail> {
+fn words_are_compared_lane_by_lane(rt: HostRuntime) -> Result<(), Fail> {
     let alloc = rt.alloc();
-    let mut b = Builder::new(alloc, 2, 16)?;
+    let mut b = Builder::new(alloc, 4, 32)?;
     let x = b.constant(Word::from_u64(0b0101))?;
     let y = b.constant(Word::from_u64(0b0011))?;
     let either = b.or(x, y)?;
     let less = b.less(0, &[x], &[y])?;
-    let circuit = b.finish(Vec::new(alloc), false);
-    let words = words_of(alloc, &circuit, &inputs(alloc))?;
-    assert!(rt; words.get(either as usize).copied() == Some(0b0111));
-    assert!(rt; words.get(less as usize).copied() == Some(0b0010));
+    let equal = b.equal(&[x, y], &[y, y])?;
+    let other = b.not(x)?;
+    let words = words_of(alloc, b, Vec::new(alloc))?;
+    assert!(rt; word_at(&words, either) == Some(0b0111));
+    assert!(rt; word_at(&words, less) == Some(0b0010));
+    // the lower planes are the same in lanes 0 and 3 and from lane 4 on
+    assert!(rt; word_at(&words, equal) == Some(u64::MAX - 0b0110));
+    assert!(rt; word_at(&words, other) == Some(u64::MAX - 0b0101));
+    Ok(())
+}
+
+#[test]
+fn a_sum_has_33_bits(rt: HostRuntime) -> Result<(), Fail> {
+    let alloc = rt.alloc();
+    let mut b = Builder::new(alloc, 64, 1_000)?;
+    let sums = b.plus(&[1; 32], 8)?;
+    let words = words_of(alloc, b, Vec::new(alloc))?;
+    let mut number = 0u64;
+    for plane in sums.iter().rev() {
+        number = (number << 1) | (word_at(&words, *plane).unwrap_or(0) & 1);
+    }
+    // 4294967295 and 8
+    assert_eq!(rt; number, 4_294_967_303);
     Ok(())
 }

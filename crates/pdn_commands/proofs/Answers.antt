@@ -16,8 +16,8 @@ use Rattle.pdn_schema.specs.Rows.{IsValid, AreValid, union}
 use Rattle.pdn_sql.specs.declared.query.Query.{Query}
 use Rattle.pdn_keeper.specs.Batches.{BatchHeld}
 use Rattle.pdn_plan.specs.Answer.{answer}
-use Rattle.pdn_plan.specs.Plans.{PlanModel}
-use Rattle.pdn_plan.specs.declared.node.Node.{Node}
+use Rattle.pdn_tree.specs.Plans.{PlanModel}
+use Rattle.pdn_tree.specs.declared.node.Node.{Node}
 use Rattle.pdn_site.specs.Models.{UnitModel}
 use Rattle.pdn_site.specs.Compiling.{Compiled}
 use Rattle.pdn_commands.specs.declared.stop.Stop.{Stop}

@@ -4,11 +4,11 @@ use Rattle.pdn_base.specs.Operators.{Rows}
 use Rattle.pdn_schema.specs.Models.{SchemaModel}
 use Rattle.pdn_schema.specs.Rows.{AreValid, union}
 use Rattle.pdn_sql.specs.declared.query.Query.{Query}
-use Rattle.pdn_plan.specs.declared.node.Node.{Node}
+use Rattle.pdn_tree.specs.declared.node.Node.{Node}
 use Rattle.pdn_plan.specs.Answer.{answer}
 use Rattle.pdn_plan.specs.Binding.{plan}
 use Rattle.pdn_plan.specs.Planning.{root}
-use Rattle.pdn_plan.specs.Plans.{PlanModel}
+use Rattle.pdn_tree.specs.Plans.{PlanModel}
 use Rattle.pdn_broker.specs.Prepared.{PreparedModel, IsPrepared, IsOf}
 use Rattle.pdn_commands.specs.Answering.{units_over}
 use Rattle.pdn_commands.specs.Gathering.{IsMeant}

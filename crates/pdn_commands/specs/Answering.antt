@@ -14,11 +14,11 @@ use Rattle.pdn_base.specs.declared.value.Value.TheVariants as value
 use Rattle.pdn_schema.specs.Models.{SchemaModel, TableModel}
 use Rattle.pdn_schema.specs.Rows.{IsValid, union}
 use Rattle.pdn_sql.specs.declared.query.Query.{Query}
-use Rattle.pdn_plan.specs.declared.node.Node.{Node, fold-Node}
-use Rattle.pdn_plan.specs.declared.node.Node.TheOpen.{Node-F}
-use Rattle.pdn_plan.specs.declared.plan.OutColumn.{OutColumn}
+use Rattle.pdn_tree.specs.declared.node.Node.{Node, fold-Node}
+use Rattle.pdn_tree.specs.declared.node.Node.TheOpen.{Node-F}
+use Rattle.pdn_tree.specs.declared.plan.OutColumn.{OutColumn}
 use Rattle.pdn_plan.specs.Answer.{answer}
-use Rattle.pdn_plan.specs.Plans.{PlanModel}
+use Rattle.pdn_tree.specs.Plans.{PlanModel}
 use Rattle.pdn_level.specs.Levels.{segments_of}
 use Rattle.pdn_site.specs.Models.{UnitModel}
 use Rattle.pdn_site.specs.Compiling.{Compiled, compiled}

@@ -16,7 +16,7 @@ use Rattle.pdn_commands.specs.Commands.{Task, Run, Check, Load, task_of}
 use Rattle.pdn_commands.specs.Answering.{IsTaken, AreAnswers, KeepsAll, AllValid, units_over}
 use Rattle.pdn_commands.specs.Checking.{AreReported}
 use Rattle.pdn_schema.specs.Printing.{text_of}
-use Rattle.pdn_plan.specs.Plans.{PlanModel}
+use Rattle.pdn_tree.specs.Plans.{PlanModel}
 use Rattle.pdn_commands.specs.Questions.{Told, Unbound, Broken, Hidden, IsBound, Holds, Answer, New, Again, Differs, OverRows, OverPer, Batch, Gives, kept_at, with_new, IsSchemaIn, AreQueriesIn, AreRowsIn}
 use Rattle.pdn_commands.specs.Script.{table_number, loaded_text}
 use Rattle.pdn_commands.specs.Stops.{Inputs}

@@ -6,8 +6,8 @@ use Rattle.pdn_schema.specs.Models.{SchemaModel, TableModel}
 use Rattle.pdn_schema.specs.Printing.{text_of}
 use Rattle.pdn_sql.specs.Printing.{query_text}
 use Rattle.pdn_sql.specs.declared.query.Query.{Query}
-use Rattle.pdn_plan.specs.Plans.{PlanModel}
-use Rattle.pdn_plan.specs.declared.plan.OutColumn.{OutColumn}
+use Rattle.pdn_tree.specs.Plans.{PlanModel}
+use Rattle.pdn_tree.specs.declared.plan.OutColumn.{OutColumn}
 use Rattle.pdn_level.specs.Levels.{segments_of}
 use Rattle.pdn_level.specs.Models.{SegmentModel}
 use Rattle.pdn_level.specs.declared.staged.Leaf.{Leaf}

@@ -8,7 +8,7 @@ use Rattle.pdn_base.specs.declared.status.Who.{Who}
 use Rattle.pdn_schema.specs.Models.{SchemaModel, TableModel, table_of}
 use Rattle.pdn_schema.specs.Rows.{IsValid, AreValid, union}
 use Rattle.pdn_sql.specs.declared.query.Query.{Query}
-use Rattle.pdn_plan.specs.declared.node.Node.{Node}
+use Rattle.pdn_tree.specs.declared.node.Node.{Node}
 use Rattle.pdn_plan.specs.Answer.{answer}
 use Rattle.pdn_site.specs.Models.{UnitModel}
 use Rattle.pdn_keeper.specs.Batches.{BatchHeld}

@@ -15,9 +15,9 @@ use Rattle.pdn_schema.specs.Words.{lines_of}
 use Rattle.pdn_sql.specs.Reading.{IsFault}
 use Rattle.pdn_sql.specs.Reading.{Says as SaysQueries}
 use Rattle.pdn_sql.specs.declared.query.Query.{Query}
-use Rattle.pdn_plan.specs.Plans.{PlanModel}
+use Rattle.pdn_tree.specs.Plans.{PlanModel}
 use Rattle.pdn_plan.specs.Binding.{BindGives}
-use Rattle.pdn_plan.specs.declared.plan.PlanErr.TheVariants as unplanned
+use Rattle.pdn_plan.specs.declared.plan_err.PlanErr.TheVariants as unplanned
 use Rattle.pdn_keeper.specs.Batches.{BatchHeld, batch_held, with_batch, kept_rows, IsAnswer}
 use Rattle.pdn_keeper.specs.Import.{imported}
 use Rattle.pdn_keeper.specs.declared.cause.CsvErr.TheVariants.{At}

@@ -10,7 +10,7 @@ use Rattle.pdn_base.specs.declared.value.Value.{Value}
 use Rattle.pdn_schema.specs.Models.{SchemaModel, TableModel, table_of}
 use Rattle.pdn_schema.specs.declared.schema.Column.{Column}
 use Rattle.pdn_sql.specs.declared.query.Query.{Query}
-use Rattle.pdn_plan.specs.Plans.{PlanModel}
+use Rattle.pdn_tree.specs.Plans.{PlanModel}
 use Rattle.pdn_commands.specs.Questions.{Question, File, Batch, SchemaIn, Bound, RowsIn, Reply, Unbound, Broken, Hidden, Answer, New, Again, Differs, OverRows, OverPer}
 
 pub data Script : Type 0 where

@@ -16,7 +16,7 @@ use Rattle.pdn_schema.specs.Reading.{Says, IsFirstFault}
 use Rattle.pdn_schema.specs.Rows.{IsValid, IsRefused}
 use Rattle.pdn_schema.specs.Words.{lines_of}
 use Rattle.pdn_sql.specs.declared.query.Query.{Query}
-use Rattle.pdn_plan.specs.Plans.{PlanModel}
+use Rattle.pdn_tree.specs.Plans.{PlanModel}
 use Rattle.pdn_keeper.specs.Batches.{BatchHeld, batch_held, with_batch}
 use Rattle.pdn_commands.specs.declared.stop.Stop.{Stop}
 use Rattle.pdn_commands.specs.declared.stop.Stop.TheVariants as stop

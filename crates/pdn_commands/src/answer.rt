@@ -8,7 +8,7 @@ ghost use Rattle.pdn_schema.specs.Rows.{AreValid, union};
 ghost use Rattle.pdn_plan.specs.Answer.{IsWritten, answer};
 ghost use Rattle.pdn_plan.specs.Binding.{refusal};
 ghost use Rattle.pdn_plan.specs.Planning.{root};
-ghost use Rattle.pdn_plan.specs.Shapes.{shape};
+ghost use Rattle.pdn_tree.specs.Shapes.{shape};
 ghost use Rattle.pdn_broker.specs.Prepared.{IsPrepared, IsOf};
 ghost use Rattle.pdn_commands.specs.Answering.{IsAnswer, wrong_column};
 ghost use Rattle.pdn_commands.specs.Gathering.{NotReady, IsMeant};

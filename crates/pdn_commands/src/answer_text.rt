@@ -2,7 +2,7 @@
 ghost use Rattle.std.specs.Prelude.{◌≡◌, ◌++◌, decimal, map, length, IfOk, OnOk};
 ghost use Rattle.std.specs.List.{flat_map};
 ghost use Rattle.std.specs.String.{string_bytes};
-ghost use Rattle.pdn_plan.specs.declared.plan.OutColumn.{OutColumn as Column};
+ghost use Rattle.pdn_tree.specs.declared.plan.OutColumn.{OutColumn as Column};
 ghost use Rattle.pdn_commands.specs.Answering.{query_name, head_line, after_commas, by_commas, value_text, row_line, names_line, answer_text};
 
 use pdn_base::{Memory, Row, Rows, Value};

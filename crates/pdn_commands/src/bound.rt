@@ -1,7 +1,7 @@
 //! The plan of a query, or the refusal.
 ghost use Rattle.std.specs.Prelude.{◌≡◌, Ok, true, IfOk, MatchResult};
 ghost use Rattle.pdn_plan.specs.Answer.{IsWritten};
-ghost use Rattle.pdn_plan.specs.Shapes.{shape};
+ghost use Rattle.pdn_tree.specs.Shapes.{shape};
 ghost use Rattle.pdn_commands.specs.Questions.{IsBound};
 ghost use Rattle.pdn_commands.specs.Stops.{IsNoPlan};
 

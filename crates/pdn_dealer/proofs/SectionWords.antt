@@ -5,9 +5,9 @@ use Rattle.std.proofs.lemmas.List.Recursion.{is_count_by}
 use Rattle.std.proofs.lemmas.List.{map_push, take-append-drop, drop-drop, take_at, drop_at}
 use Rattle.pdn_circuit.specs.declared.gate.Gate.{Gate}
 use Rattle.pdn_circuit.specs.declared.gate.Gate.TheVariants.{Input, Given, Const, Xor, And, Spread, Move}
-use Rattle.pdn_circuit.specs.Gates.{Net, ands}
+use Rattle.pdn_circuit.specs.Gates.{Net, ands, is_and}
 use Rattle.pdn_base.specs.declared.site.Site.{Site}
-use Rattle.pdn_dealer.specs.Sections.{Five, Layout, Triple, triple_of, five_words, five_of, layout_words, fives_of, r_count, five_count, section_length, layout_of, Covers, is_and}
+use Rattle.pdn_dealer.specs.Sections.{Five, Layout, Triple, triple_of, five_words, five_of, layout_words, fives_of, r_count, five_count, section_length, layout_of, Covers}
 
 -- ---- the And gates
 one_more : (g : Gate) (gs : List Gate) → length (ands (g ∷ gs)) ≡ cond (is_and g) (1 + length (ands gs)) (length (ands gs))

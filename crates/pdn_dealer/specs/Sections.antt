@@ -27,15 +27,6 @@ pub record Layout : Type 0 where
   pub masks : List ℕ
 
 -- ---- how many words a circuit needs
-abbrev pub is_and : Gate → Bool
-is_and (And a b) = true
-is_and (Input site index) = false
-is_and (Given index) = false
-is_and (Const word) = false
-is_and (Xor a b) = false
-is_and (Spread a lane) = false
-is_and (Move a from count to) = false
-
 abbrev pub r_count : Net → ℕ
 r_count net = count_by is_input net.gates
 

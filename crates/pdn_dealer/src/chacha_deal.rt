@@ -56,7 +56,7 @@ fn chacha_words(
     let mut stream = ChaCha20Rng::from_seed(key);
     stream.set_stream(ticket);
     stream.set_word_pos(u128::from(unit) * 4_294_967_296);
-    let mut words = Vec::new(alloc);
+    let mut words = Vec::with_capacity(alloc, len as usize)?;
     for _ in 0..len {
         words.push(Word::from_u64(next_u64_via_u32(&mut stream)))?;
     }

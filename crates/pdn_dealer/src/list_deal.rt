@@ -62,7 +62,7 @@ impl Deal for ListDeal {
 fn padded(alloc: Global, given: &[Word], len: u64) -> Result<Vec<Word>, Memory>
     ensures { IfOk result (λ words. words.items ≡ first_words (slice_index given.now) len) }
 {
-    let mut words = Vec::new(alloc);
+    let mut words = Vec::with_capacity(alloc, len as usize)?;
     for place in 0..len {
         words.push(word_or_zero(given, place))?;
     }

@@ -2,12 +2,11 @@
 ghost use Rattle.std.specs.Prelude.{◌≡◌, ◌+◌, ◌*◌, ◌≤◌, ◌^◌, ◌<◌, ℕ, List, length, IfOk, map, take, drop};
 ghost use Rattle.std.specs.List.{count_by};
 ghost use Rattle.pdn_base.specs.declared.site.Site.TheVariants.{A, B};
-ghost use Rattle.pdn_circuit.specs.Gates.{is_input};
+ghost use Rattle.pdn_circuit.specs.Gates.{is_input, is_and};
 ghost use Rattle.pdn_dealer.specs.Sections.{
   r_count,
   five_count,
   mask_count,
-  is_and,
   section_length,
   LayoutLaw,
   layout_of,
@@ -114,41 +113,43 @@ impl Section {
         let inputs = input_gates(circuit);
         let ands = and_gates(circuit);
         let words = self.words.as_slice();
-        let a = part(alloc, Site::A, words, inputs, ands)?;
-        let b = part(alloc, Site::B, words, inputs, ands)?;
-        Ok((a, b))
+        let masks = &words[inputs + 5 * ands..];
+        let (a, b) = triples(alloc, &words[inputs..], ands)?;
+        Ok((
+            part(alloc, &words[..inputs], a, masks)?,
+            part(alloc, &words[..inputs], b, masks)?,
+        ))
     }
 }
 
-fn part(
+fn part(alloc: Global, r: &[Word], triples: Vec<Triple>, masks: &[Word]) -> Result<Part, Memory>
+    ensures { IfOk result (λ p. p ≡ record { r = r.now; triples = triples.items; masks = masks.now }) }
+{
+    Ok(Part {
+        r: Vec::from_slice(alloc, r)?,
+        triples,
+        masks: Vec::from_slice(alloc, masks)?,
+    })
+}
+
+// Both sites' triples, from five words for each And gate.
+fn triples(
     alloc: Global,
-    site: Site,
     words: &[Word],
-    inputs: usize,
-    ands: usize,
-) -> Result<Part, Memory>
-    requires { inputs + 5 * ands ≤ length words.now }
-    ensures { IfOk result (λ p. p ≡ record {
-      r = take inputs words.now;
-      triples = map (triple_of site) (fives_of ands (drop inputs words.now));
-      masks = drop (inputs + 5 * ands) words.now;
-    }) }
-{
-    let r = Vec::from_slice(alloc, &words[..inputs])?;
-    let triples = triples(alloc, site, &words[inputs..], ands)?;
-    let masks = Vec::from_slice(alloc, &words[inputs + 5 * ands..])?;
-    Ok(Part { r, triples, masks })
-}
-
-fn triples(alloc: Global, site: Site, words: &[Word], count: usize) -> Result<Vec<Triple>, Memory>
+    count: usize,
+) -> Result<(Vec<Triple>, Vec<Triple>), Memory>
     requires { 5 * count ≤ length words.now }
-    ensures { IfOk result (λ ts. ts.items ≡ map (triple_of site) (fives_of count words.now)) }
+    ensures a { IfOk result (λ ts. ts.0.items ≡ map (triple_of A) (fives_of count words.now)) }
+    ensures b { IfOk result (λ ts. ts.1.items ≡ map (triple_of B) (fives_of count words.now)) }
 {
-    let mut triples = Vec::with_capacity(alloc, count)?;
+    let mut a = Vec::with_capacity(alloc, count)?;
+    let mut b = Vec::with_capacity(alloc, count)?;
     for k in 0..count {
-        triples.push(triple(site, &words[5 * k..]))?;
+        let five = &words[5 * k..];
+        a.push(triple(Site::A, five))?;
+        b.push(triple(Site::B, five))?;
     }
-    Ok(triples)
+    Ok((a, b))
 }
 
 // A site's triple, from the five words of an And gate.

@@ -2,7 +2,11 @@ pub mod TwoHalves
 pub mod Outputs
 pub mod RoundLaws
 pub mod Progress
-pub mod Frames
+pub mod Hearing
+pub mod Layering
+pub mod Settling
+pub mod Picking
+pub mod Stepping
 pub mod Putting
 pub mod Running
 pub mod Meeting

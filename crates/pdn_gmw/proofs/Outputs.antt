@@ -2,6 +2,7 @@
 use Rattle.std.proofs.Common.{◌≡◌, ℕ, List, [], ◌∷◌, length, map, cond, Bool, true, false, refl, sym, ap, ◌∙◌, arith, length-append}
 use Rattle.std.specs.Prelude.{slice_index}
 use Rattle.std.specs.List.{fold}
+use lib.Lanes.{zip2}
 use Rattle.std.proofs.lemmas.List.{length-map}
 use Rattle.std.proofs.lemmas.List.Folds.{fold_along}
 use Rattle.pdn_base.specs.Words.{◌⊕◌, xor_lists}
@@ -13,7 +14,7 @@ use Rattle.pdn_base.specs.declared.site.Site.{Site}
 use Rattle.pdn_base.specs.declared.site.Site.TheVariants.{A, B}
 use Rattle.pdn_circuit.specs.Gates.{Net, gate_value, next_values, values, output_words}
 use Rattle.pdn_dealer.specs.Sections.{Layout, Covers, part_of}
-use Rattle.pdn_gmw.specs.Shares.{World, Masked, Walk, start, step, walk, a_share, b_share, share_at, output_shares, put_out}
+use Rattle.pdn_gmw.specs.Shares.{World, Masked, Walk, start, step, walk, a_share, b_share, share_at, output_shares, put_out, gate_view, view_of}
 use Rattle.pdn_gmw.specs.Halves.{half_walk, half_of, half_outputs, shares_of, RunLaw}
 use Rattle.pdn_gmw.proofs.TwoHalves.{map_same, halves_law, share_whole}
 
@@ -71,6 +72,8 @@ run_law world t net to_a to_b l c talk =
     let pa = put A to_a are.shares_a in
     let pb = put B to_b are.shares_b in
     record {
+      view_a = ap (λ (ms : List Masked). record (view_of A world t net) { gates = zip2 gate_view (part_of A t).triples ms }) are.heard_a;
+      view_b = ap (λ (ms : List Masked). record (view_of B world t net) { gates = zip2 gate_view (part_of B t).triples ms }) are.heard_b;
       outputs_a = pa;
       outputs_b = pb;
       opens = ap (λ (xs : List ℕ). xor_lists xs (half_outputs (half_of B world t) to_b net)) pa ∙ ap (λ (ys : List ℕ). xor_lists (put_out A world t net) ys) pb ∙ put_out_open world t net c;

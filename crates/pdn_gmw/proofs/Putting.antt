@@ -11,7 +11,11 @@ use Rattle.pdn_gmw.specs.declared.stage.Stage.{Stage}
 use Rattle.pdn_gmw.specs.declared.stage.Stage.TheVariants.{Over}
 use Rattle.pdn_gmw.specs.Places.{state_of, AtStage, IsHalf}
 use Rattle.pdn_gmw.specs.Halves.{HalfWords, half_walk}
-use Rattle.pdn_gmw.specs.Steps.{Fits, covered, shares_out}
+use Rattle.pdn_dealer.specs.Sections.{mask_count}
+use Rattle.pdn_gmw.specs.Known.{held, received}
+use Rattle.pdn_gmw.specs.Steps.{covered, shares_out, frame_count}
+use Rattle.pdn_gmw.proofs.Progress.{length-shares}
+use Rattle.pdn_gmw.proofs.Layering.{no_deeper}
 
 by_release : (released : Bool) (outs masks : List ℕ) (k : ℕ) → length masks ≡ cond released (length outs) 0 → get_or (cond released (xor_lists outs masks) outs) k 0 ≡ covered released masks k (get_or outs k 0)
 by_release true outs masks k l = get_or-xor_lists outs masks l k
@@ -21,20 +25,20 @@ length-released : (released : Bool) (outs masks : List ℕ) → length masks ≡
 length-released true outs masks l = length-xor_lists outs masks l
 length-released false outs masks l = refl
 
-masks_long : (net : Net) (h : HalfWords) (shares : List ℕ) → Fits net h → length h.part.masks ≡ cond net.released (length (map (λ o. slice_index shares o) net.outputs)) 0
-masks_long net h shares f = f.masks ∙ ap (λ n. cond net.released n 0) (sym (length-map net.outputs (λ o. slice_index shares o)))
+masks_long : (net : Net) (h : HalfWords) (shares : List ℕ) → length h.part.masks ≡ mask_count net → length h.part.masks ≡ cond net.released (length (map (λ o. slice_index shares o) net.outputs)) 0
+masks_long net h shares f = f ∙ ap (λ n. cond net.released n 0) (sym (length-map net.outputs (λ o. slice_index shares o)))
 
-pub share_out : (net : Net) (h : HalfWords) (shares : List ℕ) (k : ℕ) → Fits net h → k < length net.outputs
+pub share_out : (net : Net) (h : HalfWords) (shares : List ℕ) (k : ℕ) → length h.part.masks ≡ mask_count net → k < length net.outputs
     → get_or (shares_out net h shares) k 0 ≡ covered net.released h.part.masks k (slice_index shares (slice_index net.outputs k))
 share_out net h shares k f l =
     by_release net.released (map (λ o. slice_index shares o) net.outputs) h.part.masks k (masks_long net h shares f)
     ∙ ap (covered net.released h.part.masks k) (get_or-map (λ o. slice_index shares o) net.outputs k 0 0 l)
 
-pub length-shares_out : (net : Net) (h : HalfWords) (shares : List ℕ) → Fits net h → length (shares_out net h shares) ≡ length net.outputs
+pub length-shares_out : (net : Net) (h : HalfWords) (shares : List ℕ) → length h.part.masks ≡ mask_count net → length (shares_out net h shares) ≡ length net.outputs
 length-shares_out net h shares f =
     length-released net.released (map (λ o. slice_index shares o) net.outputs) h.part.masks (masks_long net h shares f) ∙ length-map net.outputs (λ o. slice_index shares o)
 
-pub put_out_more : (net : Net) (h : HalfWords) (shares outs : List ℕ) (k word : ℕ) → Fits net h → k < length net.outputs → length outs ≡ length net.outputs
+pub put_out_more : (net : Net) (h : HalfWords) (shares outs : List ℕ) (k word : ℕ) → length h.part.masks ≡ mask_count net → k < length net.outputs → length outs ≡ length net.outputs
     → word ≡ covered net.released h.part.masks k (slice_index shares (slice_index net.outputs k))
     → ((j : ℕ) → j < k → get_or outs j 0 ≡ get_or (shares_out net h shares) j 0)
     → (j : ℕ) → j < k + 1 → get_or (set outs k word) j 0 ≡ get_or (shares_out net h shares) j 0
@@ -43,7 +47,7 @@ put_out_more net h shares outs k word f l long e before =
     (λ j b. get_or-set_other outs k j word 0 (λ x. absurd (omega arith)) ∙ before j b)
     (get_or-set_same outs k word 0 (omega arith) ∙ e ∙ sym (share_out net h shares k f l))
 
-pub all_put_out : (net : Net) (h : HalfWords) (shares outs : List ℕ) → Fits net h → length outs ≡ length net.outputs → ((j : ℕ) → j < length net.outputs → get_or outs j 0 ≡ get_or (shares_out net h shares) j 0) → outs ≡ shares_out net h shares
+pub all_put_out : (net : Net) (h : HalfWords) (shares outs : List ℕ) → length h.part.masks ≡ mask_count net → length outs ≡ length net.outputs → ((j : ℕ) → j < length net.outputs → get_or outs j 0 ≡ get_or (shares_out net h shares) j 0) → outs ≡ shares_out net h shares
 all_put_out net h shares outs f long e = ext_get_or 0 outs (shares_out net h shares) (long ∙ sym (length-shares_out net h shares f)) (λ j b. e j (omega arith))
 
 -- as it is read in code
@@ -55,9 +59,10 @@ share_read net now masks shares k at share word e l p b q r =
     ∙ ap (covered now.released masks k) (get_or_read shares at share b q 0 ∙ ap (λ n. get_or shares n 0) place)
 
 -- a half at its end has all its shares
-pub all_known : (h : Inside) → IsHalf h → h.stage ≡ Over → h.shares.items ≡ (half_walk h.holdings h.heard.items h.circuit.gates).shares
+pub all_known : (h : Inside) → IsHalf h → h.stage ≡ Over → h.shares.items ≡ (half_walk (held h.holdings h.views.items) (map received h.views.items) h.circuit.gates).shares
 all_known h keeps e =
-    let end : h.place.gates ≡ length h.circuit.gates = subst (λ (t : Stage). AtStage (state_of h) h.place.gates h.frame.items t) e keeps.stage in
-    sym (take_all h.place.gates h.shares.items (omega (arith, keeps.shares)))
-    ∙ keeps.place.shares_known
-    ∙ ap (λ (gs : List Gate). (half_walk h.holdings h.heard.items gs).shares) (take_all h.place.gates h.circuit.gates (omega arith))
+    let end : h.taken ≡ frame_count h.circuit = subst (λ (t : Stage). AtStage (state_of h) h.frame.items t) e keeps.stage in
+    let long = keeps.shares in
+    ext_get_or 0 h.shares.items (half_walk (held h.holdings h.views.items) (map received h.views.items) h.circuit.gates).shares
+    (long ∙ sym (length-shares (held h.holdings h.views.items) (map received h.views.items) h.circuit.gates))
+    (λ j l. keeps.known j (omega arith) (omega (arith, no_deeper h.circuit j)))

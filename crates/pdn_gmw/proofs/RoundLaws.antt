@@ -180,8 +180,8 @@ heard_alike n own hs gs es all more (Move x from count to) e u = tt
 agree_along : (n : ℕ) (h : HalfWords) (hs gs : List Masked) (round : ℕ → ℕ) (all : List ℕ) → upto n all hs ≡ upto n all gs
     → (gates : List Gate) (es : List ℕ) (w v : HalfWalk) → ((k : ℕ) (other : Gate) → k < length gates → IsAfter round (round (length w.shares + k)) (slice_index_or gates k other))
     → all ≡ es ++ and_rounds_from round (length w.shares) gates → Agree n round es w v
-    → upto (suc n) all (fold (half_step h hs) w gates).sent ≡ upto (suc n) all (fold (half_step h gs) v gates).sent
-agree_along n h hs gs round all u [] es w v i e a = rw (e, append-nil es) a.sent
+    → Agree n round all (fold (half_step h hs) w gates) (fold (half_step h gs) v gates)
+agree_along n h hs gs round all u [] es w v i e a = subst (λ (xs : List ℕ). Agree n round xs w v) (sym (e ∙ append-nil es)) a
 agree_along n h hs gs round all u (g ∷ gates) es w v i e a =
     let m : ℕ = length w.shares in
     let own : ℕ = round m in
@@ -193,13 +193,34 @@ agree_along n h hs gs round all u (g ∷ gates) es w v i e a =
     (e ∙ sym (append_assoc es (own_round g own) more) ∙ ap (λ (j : ℕ). (es ++ own_round g own) ++ and_rounds_from round j gates) (sym one))
     (agree_next n h hs gs round es w v g a (heard_alike n own hs gs es all more g e u) here)
 
--- what was heard up to round n settles what is sent up to round n + 1
-pub causal : (n : ℕ) (h : HalfWords) (gates : List Gate) (rounds : List ℕ) (hs gs : List Masked) → InRounds gates rounds → upto n (and_rounds gates rounds) hs ≡ upto n (and_rounds gates rounds) gs
-    → upto (suc n) (and_rounds gates rounds) (half_walk h hs gates).sent ≡ upto (suc n) (and_rounds gates rounds) (half_walk h gs gates).sent
-causal n h gates rounds hs gs i u = agree_along n h hs gs (slice_index rounds) (and_rounds gates rounds) u gates [] half_start half_start
+agree_whole : (n : ℕ) (h : HalfWords) (gates : List Gate) (rounds : List ℕ) (hs gs : List Masked) → InRounds gates rounds → upto n (and_rounds gates rounds) hs ≡ upto n (and_rounds gates rounds) gs
+    → Agree n (slice_index rounds) (and_rounds gates rounds) (half_walk h hs gates) (half_walk h gs gates)
+agree_whole n h gates rounds hs gs i u = agree_along n h hs gs (slice_index rounds) (and_rounds gates rounds) u gates [] half_start half_start
     (λ k other l. subst (λ (j : ℕ). IsAfter (slice_index rounds) (slice_index rounds j) (slice_index_or gates k other)) (omega arith) (i.at k other l))
     refl
     (record { share = λ j b. refl; sent = refl; inputs = refl; long = refl; count = refl; count_second = refl })
+
+-- what was heard up to round n settles the shares of these rounds, and what is sent up to round n + 1
+pub shares_settled : (n : ℕ) (h : HalfWords) (gates : List Gate) (rounds : List ℕ) (hs gs : List Masked) → InRounds gates rounds → upto n (and_rounds gates rounds) hs ≡ upto n (and_rounds gates rounds) gs
+    → (j : ℕ) → slice_index rounds j ≤ n → get_or (half_walk h hs gates).shares j 0 ≡ get_or (half_walk h gs gates).shares j 0
+shares_settled n h gates rounds hs gs i u j b = (agree_whole n h gates rounds hs gs i u).share j b
+
+pub causal : (n : ℕ) (h : HalfWords) (gates : List Gate) (rounds : List ℕ) (hs gs : List Masked) → InRounds gates rounds → upto n (and_rounds gates rounds) hs ≡ upto n (and_rounds gates rounds) gs
+    → upto (suc n) (and_rounds gates rounds) (half_walk h hs gates).sent ≡ upto (suc n) (and_rounds gates rounds) (half_walk h gs gates).sent
+causal n h gates rounds hs gs i u = (agree_whole n h gates rounds hs gs i u).sent
+
+-- what comes in in a round changes nothing of earlier ones
+pub put_later : (n : ℕ) (es : List ℕ) (hs frame : List Masked) → upto n es (put (suc n) es hs frame) ≡ upto n es hs
+put_later n [] hs frame = refl
+put_later n (e ∷ es) [] frame = refl
+put_later n (e ∷ es) (h ∷ hs) [] = ap (λ (xs : List Masked). cond (leb e n) h blank ∷ xs) (put_later n es hs [])
+put_later n (e ∷ es) (h ∷ hs) (f ∷ frame) =
+    ⊎_elim
+    (λ t. ap (upto n (e ∷ es)) (cond-true (eqb e (suc n)) (f ∷ put (suc n) es hs frame) (h ∷ put (suc n) es hs (f ∷ frame)) t.0)
+    ∙ rw (put_later n es hs frame, lt-leb e n (omega (arith, t.1))) refl)
+    (λ t. ap (upto n (e ∷ es)) (cond-false (eqb e (suc n)) (f ∷ put (suc n) es hs frame) (h ∷ put (suc n) es hs (f ∷ frame)) t.0)
+    ∙ rw (put_later n es hs (f ∷ frame)) refl)
+    (eqb_tells e (suc n))
 
 -- ---- the rounds
 count_along : (h : HalfWords) (heard : List Masked) (round : ℕ → ℕ) (gates : List Gate) (from : ℕ) (w : HalfWalk) → length (fold (half_step h heard) w gates).sent ≡ length w.sent + length (and_rounds_from round from gates)
@@ -208,7 +229,7 @@ count_along h heard round (g ∷ gates) from w =
     let c = count_along h heard round gates (from + 1) (half_step h heard w g) in
     omega (arith, length-append w.sent (half_sends h w g), sends_count h (round from) w g, length-append (own_round g (round from)) (and_rounds_from round (from + 1) gates))
 
-length-sent : (h : HalfWords) (heard : List Masked) (gates : List Gate) (rounds : List ℕ) → length (half_walk h heard gates).sent ≡ length (and_rounds gates rounds)
+pub length-sent : (h : HalfWords) (heard : List Masked) (gates : List Gate) (rounds : List ℕ) → length (half_walk h heard gates).sent ≡ length (and_rounds gates rounds)
 length-sent h heard gates rounds = let c = count_along h heard (slice_index rounds) gates 0 half_start in omega arith
 
 round_positive : (round : ℕ → ℕ) (own : ℕ) (gate : Gate) (more : List ℕ) → IsAfter round own gate → All (λ d. 0 < d) more → All (λ d. 0 < d) (own_round gate own ++ more)

@@ -1,8 +1,12 @@
 -- Two halves that run against each other.
-use Rattle.std.proofs.Common.{◌≡◌, ℕ, zero, suc, ◌+◌, ◌<◌, ◌≤◌, List, [], ◌∷◌, ◌++◌, length, get_or, take, map, replicate, refl, sym, ap, ◌∙◌, subst, arith, length-append, All}
+use Rattle.std.proofs.Common.{◌≡◌, ℕ, zero, suc, ◌+◌, ◌<◌, ◌*◌, ◌^◌, ◌≤◌, cond, eqb, ⊎_elim, List, [], ◌∷◌, ◌++◌, length, get_or, take, map, replicate, refl, sym, ap, ◌∙◌, subst, arith, length-append, All}
 use Rattle.std.specs.Prelude.{slice_index}
 use Rattle.std.specs.List.{fold, flat_map, range_with_len}
 use lib.Lanes.{zip2}
+use Rattle.std.proofs.lemmas.Bool.{cases_Bool, cond-true, cond-false}
+use Rattle.std.proofs.lemmas.List.Sums.{count_by-le-length}
+use Rattle.pdn_circuit.specs.Gates.{is_and}
+use Rattle.pdn_dealer.proofs.SectionWords.{length-ands}
 use Rattle.std.proofs.lemmas.List.{length-map, length-replicate}
 use Rattle.std.proofs.lemmas.List.FromFn.{length-range_with_len, get_or-range_with_len, get_or-map-range_with_len}
 use Rattle.pdn_base.specs.Words.{◌⊕◌, xor_lists}
@@ -13,54 +17,34 @@ use Rattle.pdn_base.specs.declared.site.Site.TheVariants.{A, B}
 use Rattle.pdn_circuit.specs.declared.gate.Gate.{Gate}
 use Rattle.pdn_circuit.specs.declared.gate.Gate.TheVariants.{Input, Given, Const, Xor, And, Spread, Move}
 use Rattle.pdn_circuit.specs.Gates.{Net, IsCircuit, ands, operands_of, output_words}
-use Rattle.pdn_circuit.specs.Depths.{and_rounds_from, and_rounds, counts_of}
-use Rattle.pdn_circuit.proofs.CountLaws.{counts_in_rounds}
+use Rattle.pdn_circuit.specs.Depths.{own_round, and_rounds_from, and_rounds, depths_of}
 use Rattle.pdn_dealer.specs.declared.parts.Triple.{Triple}
 use Rattle.pdn_dealer.specs.Sections.{Five, Layout, PartWords, part_of, triple_of, five_count, Covers}
 use Rattle.pdn_gmw.specs.declared.stage.Stage.TheVariants.{Ready, Sent, Over}
-use Rattle.pdn_gmw.specs.Shares.{Masked, blank, World, put_out}
-use Rattle.pdn_gmw.specs.Halves.{HalfWords, half_walk, half_of, half_outputs, HaveTalked, IsRun}
+use Rattle.pdn_gmw.specs.Shares.{Masked, blank, World, UnitWords, view_of, put_out}
+use Rattle.pdn_gmw.specs.Halves.{HalfWords, half_walk, half_of, half_view, half_outputs, HaveTalked, IsRun}
 use Rattle.pdn_gmw.specs.Rounds.{pick, put, Heard, heard_after}
-use Rattle.pdn_gmw.specs.Steps.{HalfState, Fits, begun, rounds_of, masked_words, masked_of, next_frame, after_next, after_take, FinishedHalf, finished, finished_of}
-use Rattle.pdn_gmw.specs.Pairs.{joined_five, joined, AreParts, ArePair, inputs_of, world_of, section_of_pair}
+use Rattle.pdn_gmw.specs.Steps.{HalfState, Fits, begun, rounds_of, frame_count, masked_words, masked_of, next_frame, after_next, after_take, FinishedHalf, finished, finished_of}
+use Rattle.pdn_gmw.specs.Pairs.{joined_five, joined, AreParts, ArePair, inputs_of, world_of, section_of_pair, run_of}
 use Rattle.pdn_gmw.proofs.Outputs.{run_law}
-use Rattle.pdn_gmw.proofs.RoundLaws.{round_law}
+use Rattle.pdn_gmw.proofs.RoundLaws.{depth_law}
+use Rattle.pdn_gmw.proofs.Picking.{rounds_long}
+use Rattle.pdn_gmw.proofs.Layering.{no_deeper}
 
--- ---- a round of its own for each And gate
-later : (round : ℕ → ℕ) (g : Gate) (gs : List Gate) (from count : ℕ) → ((k : ℕ) → k < length (g ∷ gs) → round (from + k) ≡ count + length (ands (take (k + 1) (g ∷ gs))))
-    → (k : ℕ) → k < length gs → round (from + 1 + k) ≡ count + length (operands_of g) + length (ands (take (k + 1) gs))
-later round g gs from count h k l =
-    let n : from + 1 + k ≡ from + suc k = omega arith in
-    let m : suc k + 1 ≡ suc (k + 1) = omega arith in
-    ap round n ∙ h (suc k) (omega arith) ∙ ap (λ (j : ℕ). count + length (ands (take j (g ∷ gs)))) m ∙ omega (arith, length-append (operands_of g) (ands (take (k + 1) gs)))
+-- ---- no And gate is deeper than the last frame
+round_within : (m own : ℕ) (g : Gate) (more : List ℕ) → own ≤ m → All (λ d. d ≤ m) more → All (λ d. d ≤ m) (own_round g own ++ more)
+round_within m own (And x y) more i all =
+    λ k d l. elim k as (λ j. j < suc (length more) → get_or (own ∷ more) j d ≤ m) [ zero ↦ λ n. i | suc j ↦ λ n. all j d (omega arith) ] l
+round_within m own (Input from index) more i all = all
+round_within m own (Given index) more i all = all
+round_within m own (Const word) more i all = all
+round_within m own (Xor x y) more i all = all
+round_within m own (Spread x lane) more i all = all
+round_within m own (Move x from count to) more i all = all
 
-skip : (round : ℕ → ℕ) (g : Gate) (gs : List Gate) (from count : ℕ) → ((k : ℕ) → k < length (g ∷ gs) → round (from + k) ≡ count + length (ands (take (k + 1) (g ∷ gs)))) → length (operands_of g) ≡ 0
-    → (k : ℕ) → k < length gs → round (from + 1 + k) ≡ count + length (ands (take (k + 1) gs))
-skip round g gs from count h e k l = later round g gs from count h k l ∙ omega (arith, e)
-
-counted_along : (round : ℕ → ℕ) (gs : List Gate) (from count : ℕ) → ((k : ℕ) → k < length gs → round (from + k) ≡ count + length (ands (take (k + 1) gs)))
-    → and_rounds_from round from gs ≡ range_with_len (count + 1) (length (ands gs))
-counted_along round [] from count h = refl
-counted_along round (And x y ∷ gs) from count h =
-    let n : from ≡ from + 0 = omega arith in
-    let here : round from ≡ count + 1 = ap round n ∙ h 0 (omega arith) in
-    let rest = counted_along round gs (from + 1) (count + 1) (λ k l. later round (And x y) gs from count h k l) in
-    rw (here, rest) refl
-counted_along round (Input site index ∷ gs) from count h = counted_along round gs (from + 1) count (skip round (Input site index) gs from count h refl)
-counted_along round (Given index ∷ gs) from count h = counted_along round gs (from + 1) count (skip round (Given index) gs from count h refl)
-counted_along round (Const word ∷ gs) from count h = counted_along round gs (from + 1) count (skip round (Const word) gs from count h refl)
-counted_along round (Xor x y ∷ gs) from count h = counted_along round gs (from + 1) count (skip round (Xor x y) gs from count h refl)
-counted_along round (Spread x lane ∷ gs) from count h = counted_along round gs (from + 1) count (skip round (Spread x lane) gs from count h refl)
-counted_along round (Move x lanes width to ∷ gs) from count h = counted_along round gs (from + 1) count (skip round (Move x lanes width to) gs from count h refl)
-
-rounds_counted : (net : Net) → and_rounds net.gates (counts_of net.gates) ≡ rounds_of net
-rounds_counted net =
-    counted_along (slice_index (counts_of net.gates)) net.gates 0 0
-    (λ k l. let z : 0 + k ≡ k = omega arith in
-    ap (slice_index (counts_of net.gates)) z ∙ get_or-map-range_with_len (λ j. length (ands (take (j + 1) net.gates))) 0 (length net.gates) k k 0 l (omega arith) ∙ omega arith)
-
-rounds_within : (n : ℕ) → All (λ d. d ≤ n) (range_with_len 1 n)
-rounds_within n = λ k d l. let e = get_or-range_with_len 1 n k d (omega (arith, length-range_with_len 1 n)) in omega (arith, e, length-range_with_len 1 n)
+rounds_within : (round : ℕ → ℕ) (m : ℕ) → ((k : ℕ) → round k ≤ m) → (gates : List Gate) (from : ℕ) → All (λ d. d ≤ m) (and_rounds_from round from gates)
+rounds_within round m h [] from = λ k d l. absurd (omega arith)
+rounds_within round m h (g ∷ gates) from = round_within m (round from) g (and_rounds_from round (from + 1) gates) (h from) (rounds_within round m h gates (from + 1))
 
 -- ---- frames as words
 words_back : (ms : List Masked) → masked_of (flat_map masked_words ms) ≡ ms
@@ -78,7 +62,7 @@ abbrev pub state_b : HalfState → HalfState → ℕ → HalfState
 state_b a b n = record { net = a.net; half = b.half; heard = (heard_at_round a b n).b; taken = n; stage = Ready }
 
 blanks : (net : Net) → replicate (five_count net) blank ≡ replicate (length (rounds_of net)) blank
-blanks net = ap (λ (n : ℕ). replicate n blank) (sym (length-range_with_len 1 (five_count net)))
+blanks net = ap (λ (n : ℕ). replicate n blank) (sym (rounds_long (slice_index (depths_of net.gates)) 0 net.gates))
 
 pub begins_a : (a b : HalfState) → ArePair a b → a ≡ state_a a b 0
 begins_a a b p = p.fresh_a ∙ ap (λ (hs : List Masked). record (begun a.net a.half) { heard = hs }) (blanks a.net)
@@ -136,15 +120,12 @@ covers_joined : (net : Net) (a b : PartWords) → AreParts a b → length a.r �
 covers_joined net a b p e = sym (ap (λ (q : PartWords). length q.triples) p.part_a) ∙ length-map (joined a b).fives (triple_of A)
 
 pub run_ends : (a b : HalfState) → ArePair a b → Fits a.net a.half → IsCircuit a.net
-    → IsRun (world_of a b) (section_of_pair a b) a.net (heard_at_round a b (five_count a.net)).a (heard_at_round a b (five_count a.net)).b
+    → IsRun (world_of a b) (section_of_pair a b) a.net (heard_at_round a b (frame_count a.net)).a (heard_at_round a b (frame_count a.net)).b
 run_ends a b p fits is =
-    let n : ℕ = five_count a.net in
+    let n : ℕ = frame_count a.net in
     let heard : Heard = heard_at_round a b n in
-    let counted = rounds_counted a.net in
     let talk : HaveTalked a.half b.half a.net.gates heard.a heard.b
-    = subst (λ (es : List ℕ). HaveTalked a.half b.half a.net.gates (heard_after a.half b.half a.net.gates es n).a (heard_after a.half b.half a.net.gates es n).b) counted
-    (round_law a.half b.half a.net.gates (counts_of a.net.gates) n (counts_in_rounds a.net.gates is.gates.order)
-    (subst (λ (es : List ℕ). All (λ d. d ≤ n) es) (sym counted) (rounds_within n))) in
+    = depth_law a.half b.half a.net.gates n is.gates.order (rounds_within (slice_index (depths_of a.net.gates)) n (no_deeper a.net) a.net.gates 0) in
     let both : HaveTalked (half_of A (world_of a b) (section_of_pair a b)) (half_of B (world_of a b) (section_of_pair a b)) a.net.gates heard.a heard.b
     = subst (λ (h : HalfWords). HaveTalked h (half_of B (world_of a b) (section_of_pair a b)) a.net.gates heard.a heard.b) (sym (half_a_is a b p))
     (subst (λ (h : HalfWords). HaveTalked a.half h a.net.gates heard.a heard.b) (sym (half_b_is a b p)) talk) in
@@ -153,36 +134,76 @@ run_ends a b p fits is =
     both
 
 pub outputs_a : (a b : HalfState) → ArePair a b → Fits a.net a.half → IsCircuit a.net
-    → half_outputs a.half (heard_at_round a b (five_count a.net)).a a.net ≡ put_out A (world_of a b) (section_of_pair a b) a.net
+    → half_outputs a.half (heard_at_round a b (frame_count a.net)).a a.net ≡ put_out A (world_of a b) (section_of_pair a b) a.net
 outputs_a a b p fits is =
-    ap (λ (h : HalfWords). half_outputs h (heard_at_round a b (five_count a.net)).a a.net) (sym (half_a_is a b p)) ∙ (run_ends a b p fits is).outputs_a
+    ap (λ (h : HalfWords). half_outputs h (heard_at_round a b (frame_count a.net)).a a.net) (sym (half_a_is a b p)) ∙ (run_ends a b p fits is).outputs_a
 
 pub outputs_b : (a b : HalfState) → ArePair a b → Fits a.net a.half → IsCircuit a.net
-    → half_outputs b.half (heard_at_round a b (five_count a.net)).b a.net ≡ put_out B (world_of a b) (section_of_pair a b) a.net
+    → half_outputs b.half (heard_at_round a b (frame_count a.net)).b a.net ≡ put_out B (world_of a b) (section_of_pair a b) a.net
 outputs_b a b p fits is =
-    ap (λ (h : HalfWords). half_outputs h (heard_at_round a b (five_count a.net)).b a.net) (sym (half_b_is a b p)) ∙ (run_ends a b p fits is).outputs_b
+    ap (λ (h : HalfWords). half_outputs h (heard_at_round a b (frame_count a.net)).b a.net) (sym (half_b_is a b p)) ∙ (run_ends a b p fits is).outputs_b
 
-pub ended_a : (a b : HalfState) (n : ℕ) (last : HalfState) → ArePair a b → Fits a.net a.half → IsCircuit a.net → n ≡ five_count a.net → last ≡ after_next (state_a a b n)
-    → finished last ≡ finished_of a.net a.half (put_out A (world_of a b) (section_of_pair a b) a.net)
+view_a : (a b : HalfState) → ArePair a b → Fits a.net a.half → IsCircuit a.net
+    → half_view a.half (heard_at_round a b (frame_count a.net)).a a.net ≡ view_of A (world_of a b) (section_of_pair a b) a.net
+view_a a b p fits is =
+    ap (λ (h : HalfWords). half_view h (heard_at_round a b (frame_count a.net)).a a.net) (sym (half_a_is a b p)) ∙ (run_ends a b p fits is).view_a
+
+view_b : (a b : HalfState) → ArePair a b → Fits a.net a.half → IsCircuit a.net
+    → half_view b.half (heard_at_round a b (frame_count a.net)).b a.net ≡ view_of B (world_of a b) (section_of_pair a b) a.net
+view_b a b p fits is =
+    ap (λ (h : HalfWords). half_view h (heard_at_round a b (frame_count a.net)).b a.net) (sym (half_b_is a b p)) ∙ (run_ends a b p fits is).view_b
+
+pub ended_a : (a b : HalfState) (n : ℕ) (last : HalfState) → ArePair a b → Fits a.net a.half → IsCircuit a.net → n ≡ frame_count a.net → last ≡ after_next (state_a a b n)
+    → finished last ≡ (run_of a b).a
 ended_a a b n last p fits is e l =
     ap finished l
-    ∙ ap (λ (k : ℕ). finished_of a.net a.half (half_outputs a.half (heard_at_round a b k).a a.net)) e
-    ∙ ap (finished_of a.net a.half) (outputs_a a b p fits is)
+    ∙ ap (λ (k : ℕ). finished_of a.net a.half (half_view a.half (heard_at_round a b k).a a.net) (half_outputs a.half (heard_at_round a b k).a a.net)) e
+    ∙ ap (λ (v : UnitWords). finished_of a.net a.half v (half_outputs a.half (heard_at_round a b (frame_count a.net)).a a.net)) (view_a a b p fits is)
+    ∙ ap (finished_of a.net a.half (view_of A (world_of a b) (section_of_pair a b) a.net)) (outputs_a a b p fits is)
 
-pub ended_b : (a b : HalfState) (n : ℕ) (last : HalfState) → ArePair a b → Fits a.net a.half → IsCircuit a.net → n ≡ five_count a.net → last ≡ after_next (state_b a b n)
-    → finished last ≡ finished_of b.net b.half (put_out B (world_of a b) (section_of_pair a b) b.net)
+pub ended_b : (a b : HalfState) (n : ℕ) (last : HalfState) → ArePair a b → Fits a.net a.half → IsCircuit a.net → n ≡ frame_count a.net → last ≡ after_next (state_b a b n)
+    → finished last ≡ (run_of a b).b
 ended_b a b n last p fits is e l =
     ap finished l
-    ∙ ap (λ (k : ℕ). finished_of a.net b.half (half_outputs b.half (heard_at_round a b k).b a.net)) e
-    ∙ ap (finished_of a.net b.half) (outputs_b a b p fits is)
-    ∙ ap (λ (net : Net). finished_of net b.half (put_out B (world_of a b) (section_of_pair a b) net)) (sym p.one_net)
+    ∙ ap (λ (k : ℕ). finished_of a.net b.half (half_view b.half (heard_at_round a b k).b a.net) (half_outputs b.half (heard_at_round a b k).b a.net)) e
+    ∙ ap (λ (v : UnitWords). finished_of a.net b.half v (half_outputs b.half (heard_at_round a b (frame_count a.net)).b a.net)) (view_b a b p fits is)
+    ∙ ap (finished_of a.net b.half (view_of B (world_of a b) (section_of_pair a b) a.net)) (outputs_b a b p fits is)
+    ∙ ap (λ (net : Net). finished_of net b.half (view_of B (world_of a b) (section_of_pair a b) net) (put_out B (world_of a b) (section_of_pair a b) net)) (sym p.one_net)
 
 pub shares_open : (a b : HalfState) → ArePair a b → Fits a.net a.half → IsCircuit a.net
     → xor_lists (put_out A (world_of a b) (section_of_pair a b) a.net) (put_out B (world_of a b) (section_of_pair a b) b.net) ≡ output_words (inputs_of a b) a.net
 shares_open a b p fits is =
     let r = run_ends a b p fits is in
-    let heard : Heard = heard_at_round a b (five_count a.net) in
+    let heard : Heard = heard_at_round a b (frame_count a.net) in
     ap (λ (net : Net). xor_lists (put_out A (world_of a b) (section_of_pair a b) a.net) (put_out B (world_of a b) (section_of_pair a b) net)) p.one_net
     ∙ ap (λ (ys : List ℕ). xor_lists (put_out A (world_of a b) (section_of_pair a b) a.net) ys) (sym r.outputs_b)
     ∙ ap (λ (xs : List ℕ). xor_lists xs (half_outputs (half_of B (world_of a b) (section_of_pair a b)) heard.b a.net)) (sym r.outputs_a)
     ∙ r.opens
+
+-- ---- a frame's length fits its count
+pick_few : (d : ℕ) (es : List ℕ) (fs : List Masked) → length (pick d es fs) ≤ length es
+pick_few d [] fs = omega arith
+pick_few d (e ∷ es) [] = omega arith
+pick_few d (e ∷ es) (f ∷ fs) =
+    let h = pick_few d es fs in
+    ⊎_elim
+    (λ t. subst (λ (xs : List Masked). length xs ≤ suc (length es)) (sym (cond-true (eqb e d) (f ∷ pick d es fs) (pick d es fs) t)) (omega arith))
+    (λ t. subst (λ (xs : List Masked). length xs ≤ suc (length es)) (sym (cond-false (eqb e d) (f ∷ pick d es fs) (pick d es fs) t)) (omega arith))
+    (cases_Bool (eqb e d))
+
+two_words_each : (ms : List Masked) → length (flat_map masked_words ms) ≡ 2 * length ms
+two_words_each [] = refl
+two_words_each (m ∷ ms) = let h = two_words_each ms in omega arith
+
+pub frame_few : (s : HalfState) → IsCircuit s.net → length (next_frame s) < 2 ^ 32
+frame_few s is =
+    let sent : List Masked = (half_walk s.half s.heard s.net.gates).sent in
+    let few = is.few_gates in
+    omega (
+      arith,
+      two_words_each (pick (s.taken + 1) (rounds_of s.net) sent),
+      pick_few (s.taken + 1) (rounds_of s.net) sent,
+      rounds_long (slice_index (depths_of s.net.gates)) 0 s.net.gates,
+      length-ands s.net.gates,
+      count_by-le-length is_and s.net.gates,
+    )

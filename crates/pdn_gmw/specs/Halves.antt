@@ -1,6 +1,7 @@
 -- One half: what it computes and sends, from its own words, its part and the words that it received.
 use Rattle.std.specs.Prelude.{◌<◌, ◌≤◌, ◌+◌, ◌≡◌, ℕ, List, [], ◌∷◌, ◌++◌, length, take, map, slice_index, slice_index_or, cond}
 use Rattle.std.specs.List.{fold}
+use lib.Lanes.{zip2}
 use Rattle.pdn_base.specs.Words.{◌⊕◌, ◌⊗◌, spread, moved, xor_lists}
 use Rattle.pdn_circuit.specs.Gates.{Net, words_of, output_words, operands_of}
 use Rattle.pdn_circuit.specs.declared.gate.Gate.{Gate}
@@ -9,7 +10,7 @@ use Rattle.pdn_base.specs.declared.site.Site.{Site}
 use Rattle.pdn_base.specs.declared.site.Site.TheVariants.{A, B}
 use Rattle.pdn_dealer.specs.declared.parts.Triple.{Triple}
 use Rattle.pdn_dealer.specs.Sections.{Layout, no_triple, PartWords, part_of, Covers}
-use Rattle.pdn_gmw.specs.Shares.{World, Masked, blank, Walk, walk, inputs_after, put_out}
+use Rattle.pdn_gmw.specs.Shares.{World, Masked, blank, Walk, walk, inputs_after, put_out, other_site, r_words, gate_view, UnitWords, view_of}
 
 -- what a half begins with
 pub record HalfWords : Type 0 where
@@ -90,6 +91,14 @@ half_outputs h heard net =
     let shares = map (λ o. slice_index (half_walk h heard net.gates).shares o) net.outputs in
     cond net.released (xor_lists shares h.part.masks) shares
 
+abbrev pub half_view : HalfWords → List Masked → Net → UnitWords
+half_view h heard net = record {
+  own = r_words h.site h.part.r 0 net.gates;
+  other = r_words (other_site h.site) h.part.r 0 net.gates;
+  gates = zip2 gate_view h.part.triples heard;
+  masks = h.part.masks;
+}
+
 -- ---- two honest halves of one section
 abbrev pub given_shares : Site → World → List ℕ
 given_shares A world = world.given_a
@@ -118,8 +127,10 @@ abbrev pub HalvesLaw : Type 0
 HalvesLaw = (world : World) (t : Layout) (gates : List Gate) (to_a to_b : List Masked) → length world.given_a ≡ length world.inputs.given
     → HaveTalked (half_of A world t) (half_of B world t) gates to_a to_b → AreShares world t gates to_a to_b
 
--- so what they put out is what the definitions say, and comes to the plain words
+-- so what they see and put out is what the definitions say, and what they put out comes to the plain words
 pub record IsRun (world : World) (t : Layout) (net : Net) (to_a to_b : List Masked) : Type 0 where
+  pub view_a : half_view (half_of A world t) to_a net ≡ view_of A world t net
+  pub view_b : half_view (half_of B world t) to_b net ≡ view_of B world t net
   pub outputs_a : half_outputs (half_of A world t) to_a net ≡ put_out A world t net
   pub outputs_b : half_outputs (half_of B world t) to_b net ≡ put_out B world t net
   pub opens : xor_lists (half_outputs (half_of A world t) to_a net) (half_outputs (half_of B world t) to_b net) ≡ output_words world.inputs net
@@ -144,8 +155,3 @@ CanShare h heard len inputs k (Xor x y) = (x < len) × (y < len)
 CanShare h heard len inputs k (And x y) = (x < len) × (y < len) × (k < length h.part.triples) × (k < length heard)
 CanShare h heard len inputs k (Spread x lane) = (x < len) × (lane < 64)
 CanShare h heard len inputs k (Move x from count to) = (x < len) × (1 ≤ count) × (from + count ≤ 64) × (to + count ≤ 64)
-
--- what is read at each gate is there
-abbrev pub CanShareAll : HalfWords → List Masked → List Gate → Type 0
-CanShareAll h heard gates = (k : ℕ) (other : Gate) → k < length gates →
-    CanShare h heard k (half_walk h heard (take k gates)).inputs (length (half_walk h heard (take k gates)).sent) (slice_index_or gates k other)

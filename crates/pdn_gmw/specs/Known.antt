@@ -1,27 +1,113 @@
--- The gates whose shares a half has computed.
-use Rattle.std.specs.Prelude.{◌≡◌, ℕ, ◌<◌, ◌≤◌, true, ◌⊎◌, Option, Some, None, List, length, take, slice_index_or}
+-- What a half has at hand, and how the shares of one depth come of those below it.
+use Rattle.std.specs.Prelude.{◌≡◌, ℕ, ◌+◌, ◌*◌, ◌<◌, ◌≤◌, ◌⊎◌, true, List, [], ◌∷◌, length, take, map, slice_index, slice_index_or, slice_set}
+use Rattle.std.specs.List.{fold, count_by, range_with_len}
+use Rattle.pdn_base.specs.declared.site.Site.{Site}
+use Rattle.pdn_base.specs.Words.{◌⊕◌, spread, moved}
 use Rattle.pdn_circuit.specs.declared.gate.Gate.{Gate}
-use Rattle.pdn_circuit.specs.declared.gate.Gate.TheVariants.{And}
-use Rattle.pdn_dealer.specs.Sections.{is_and}
-use Rattle.pdn_gmw.specs.Shares.{Masked}
-use Rattle.pdn_gmw.specs.Halves.{HalfWords, half_walk}
+use Rattle.pdn_circuit.specs.declared.gate.Gate.TheVariants.{Input, Given, Const, Xor, And, Spread, Move}
+use Rattle.pdn_circuit.specs.Gates.{Net, is_input, input_count, given_count}
+use Rattle.pdn_circuit.specs.Depths.{depths_of}
+use Rattle.pdn_dealer.specs.declared.parts.Triple.{Triple}
+use Rattle.pdn_dealer.specs.Sections.{r_count}
+use Rattle.pdn_gmw.specs.Shares.{Masked, GateView}
+use Rattle.pdn_gmw.specs.Halves.{HalfWords, half_input, half_const, half_product, half_walk, IsOwn}
+use Rattle.pdn_gmw.specs.Layers.{LayerAnd, gate_at}
 
--- the shares of the first `known` gates are there; among them are so many Input gates and And gates
-pub record IsAt (half : HalfWords) (heard : List Masked) (gates : List Gate) (known inputs ands : ℕ) (shares : List ℕ) : Type 0 where
-  pub within : known ≤ length gates
-  pub shares_known : take known shares ≡ (half_walk half heard (take known gates)).shares
-  pub inputs_past : inputs ≡ (half_walk half heard (take known gates)).inputs
-  pub ands_past : ands ≡ length (half_walk half heard (take known gates)).sent
+-- a half's words, all but the triples, which stand in its views
+pub record HeldWords : Type 0 where
+  pub site : Site
+  pub own : List ℕ
+  pub given : List ℕ
+  pub r : List ℕ
+  pub masks : List ℕ
 
--- the next gate is an And gate
-pub record IsAndAt (gates : List Gate) (known : ℕ) : Type 0 where
-  pub within : known < length gates
-  pub gate : (other : Gate) → is_and (slice_index_or gates known other) ≡ true
+abbrev pub no_view : GateView
+no_view = record { a = 0; b = 0; c = 0; d = 0; e = 0 }
 
--- the half can't go on by itself: an And gate comes next, or none
-abbrev pub StopsAt : List Gate → ℕ → Type 0
-StopsAt gates known = IsAndAt gates known ⊎ (known ≡ length gates)
+abbrev pub view_at : List GateView → ℕ → GateView
+view_at views k = slice_index_or views k no_view
 
-abbrev pub IsAndFound : List Gate → ℕ → Option (ℕ × ℕ) → Type 0
-IsAndFound gates at (Some p) = (at < length gates) × ((other : Gate) → slice_index_or gates at other ≡ And p.0 p.1)
-IsAndFound gates at None = IsAndAt gates at → ⊥
+abbrev pub own_triple : GateView → Triple
+own_triple v = record { a = v.a; b = v.b; c = v.c }
+
+abbrev pub received : GateView → Masked
+received v = record { d = v.d; e = v.e }
+
+abbrev pub held : HeldWords → List GateView → HalfWords
+held h views = record { site = h.site; own = h.own; given = h.given; part = record { r = h.r; triples = map own_triple views; masks = h.masks } }
+
+-- a view before anything was received
+abbrev pub unheard : Triple → GateView
+unheard t = record { a = t.a; b = t.b; c = t.c; d = 0; e = 0 }
+
+-- ---- gates that read no other
+abbrev pub leaf_share : HeldWords → ℕ → Gate → ℕ
+leaf_share h inputs (Input site index) = half_input h.site site (slice_index h.own index) (slice_index h.r inputs)
+leaf_share h inputs (Given index) = slice_index h.given index
+leaf_share h inputs (Const word) = half_const h.site word
+leaf_share h inputs (Xor x y) = 0
+leaf_share h inputs (And x y) = 0
+leaf_share h inputs (Spread x lane) = 0
+leaf_share h inputs (Move x from count to) = 0
+
+abbrev pub CanLeaf : HeldWords → ℕ → Gate → Type 0
+CanLeaf h inputs (Input site index) = IsOwn h.site site index (length h.own) × (inputs < length h.r)
+CanLeaf h inputs (Given index) = index < length h.given
+CanLeaf h inputs (Const word) = Unit {0}
+CanLeaf h inputs (Xor x y) = Unit {0}
+CanLeaf h inputs (And x y) = Unit {0}
+CanLeaf h inputs (Spread x lane) = Unit {0}
+CanLeaf h inputs (Move x from count to) = Unit {0}
+
+abbrev pub leaf_at : HeldWords → List Gate → ℕ → ℕ
+leaf_at h gates k = leaf_share h (count_by is_input (take k gates)) (gate_at gates k)
+
+pub record HasLeaves (net : Net) (h : HeldWords) : Type 0 where
+  pub own : length h.own ≡ input_count h.site net.gates
+  pub given : length h.given ≡ given_count net.gates
+  pub r : length h.r ≡ r_count net
+
+-- ---- And gates of one depth
+abbrev pub AndThere : ℕ → ℕ → LayerAnd → Type 0
+AndThere views shares s = (s.number < views) × (s.gate < shares) × (s.x < shares) × (s.y < shares)
+
+abbrev pub AndsThere : List LayerAnd → ℕ → ℕ → Type 0
+AndsThere ands views shares = (m : ℕ) (other : LayerAnd) → m < length ands → AndThere views shares (slice_index_or ands m other)
+
+-- what goes out for an And gate
+abbrev pub and_sends : List GateView → List ℕ → LayerAnd → Masked
+and_sends views shares s = record { d = slice_index shares s.x ⊕ (view_at views s.number).a; e = slice_index shares s.y ⊕ (view_at views s.number).b }
+
+-- what came in goes to the views of its And gates
+abbrev pub heard_by : List LayerAnd → List ℕ → List GateView → List GateView
+heard_by [] frame views = views
+heard_by (s ∷ ss) [] views = views
+heard_by (s ∷ ss) (d ∷ []) views = views
+heard_by (s ∷ ss) (d ∷ e ∷ frame) views = heard_by ss frame (slice_set views s.number (record (view_at views s.number) { d = d; e = e }))
+
+-- the share of an And gate, once the other side's words are there
+abbrev pub and_share : Site → List GateView → List ℕ → LayerAnd → ℕ
+and_share site views shares s =
+    let v = view_at views s.number in
+    let mine = and_sends views shares s in
+    half_product site (own_triple v) (mine.d ⊕ v.d) (mine.e ⊕ v.e)
+
+abbrev pub and_settled : Site → List GateView → List ℕ → LayerAnd → List ℕ
+and_settled site views shares s = slice_set shares s.gate (and_share site views shares s)
+
+-- ---- gates whose shares come of shares alone
+abbrev pub linear_share : List ℕ → Gate → ℕ
+linear_share shares (Xor x y) = slice_index shares x ⊕ slice_index shares y
+linear_share shares (Spread x lane) = spread (slice_index shares x) lane
+linear_share shares (Move x from count to) = moved (slice_index shares x) from count to
+linear_share shares (Input site index) = 0
+linear_share shares (Given index) = 0
+linear_share shares (Const word) = 0
+linear_share shares (And x y) = 0
+
+abbrev pub linear_settled : List Gate → List ℕ → ℕ → List ℕ
+linear_settled gates shares k = slice_set shares k (linear_share shares (gate_at gates k))
+
+-- ---- the shares of all gates up to a depth are there
+abbrev pub KnownTo : HalfWords → List Masked → List Gate → ℕ → List ℕ → Type 0
+KnownTo half heard gates n shares = (j : ℕ) → j < length gates → slice_index (depths_of gates) j ≤ n → slice_index shares j ≡ slice_index (half_walk half heard gates).shares j

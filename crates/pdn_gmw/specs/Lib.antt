@@ -3,6 +3,7 @@ pub mod Halves
 pub mod Rounds
 pub mod Steps
 pub mod Given
+pub mod Layers
 pub mod Known
 pub mod Places
 pub mod Pairs

@@ -7,7 +7,7 @@ use Rattle.pdn_base.specs.declared.site.Site.TheVariants.{A, B}
 use Rattle.pdn_circuit.specs.Gates.{InputWords}
 use Rattle.pdn_dealer.specs.declared.parts.Triple.{Triple}
 use Rattle.pdn_dealer.specs.Sections.{Five, Layout, PartWords, part_of}
-use Rattle.pdn_gmw.specs.Shares.{World, put_out}
+use Rattle.pdn_gmw.specs.Shares.{World, view_of, put_out}
 use Rattle.pdn_gmw.specs.Steps.{HalfState, begun, FinishedHalf, finished_of}
 
 -- the section of which two parts are A's and B's
@@ -45,9 +45,9 @@ pub record Run : Type 0 where
   pub a : FinishedHalf
   pub b : FinishedHalf
 
--- what they finish with: the shares that the plain values say
+-- what they finish with: the views and the shares that the plain values say
 abbrev pub run_of : HalfState → HalfState → Run
 run_of a b = record {
-  a = finished_of a.net a.half (put_out A (world_of a b) (section_of_pair a b) a.net);
-  b = finished_of b.net b.half (put_out B (world_of a b) (section_of_pair a b) b.net);
+  a = finished_of a.net a.half (view_of A (world_of a b) (section_of_pair a b) a.net) (put_out A (world_of a b) (section_of_pair a b) a.net);
+  b = finished_of b.net b.half (view_of B (world_of a b) (section_of_pair a b) b.net) (put_out B (world_of a b) (section_of_pair a b) b.net);
 }

@@ -1,14 +1,17 @@
 -- What each side of a circuit's run holds, sends and sees, told from the plain values and the whole section.
 pub use Rattle.pdn_gmw.specs.declared.masked.Masked.{Masked}
+pub use Rattle.pdn_gmw.specs.declared.views.GateView.{GateView}
 use Rattle.std.specs.Prelude.{ℕ, ◌+◌, List, [], ◌∷◌, ◌++◌, length, map, slice_index, slice_index_or, cond}
 use Rattle.std.specs.List.{fold}
+use lib.Lanes.{zip2}
 use Rattle.pdn_base.specs.Words.{◌⊕◌, ◌⊗◌, spread, moved, xor_lists}
 use Rattle.pdn_circuit.specs.Gates.{Net, InputWords, gate_value, operands_of, is_input}
 use Rattle.pdn_circuit.specs.declared.gate.Gate.{Gate}
 use Rattle.pdn_circuit.specs.declared.gate.Gate.TheVariants.{Input, Given, Const, Xor, And, Spread, Move}
 use Rattle.pdn_base.specs.declared.site.Site.{Site}
 use Rattle.pdn_base.specs.declared.site.Site.TheVariants.{A, B}
-use Rattle.pdn_dealer.specs.Sections.{Five, no_five, Layout}
+use Rattle.pdn_dealer.specs.declared.parts.Triple.{Triple}
+use Rattle.pdn_dealer.specs.Sections.{Five, no_five, Layout, part_of}
 
 -- the words that a run begins with: the plain ones, and A's shares of the given ones
 pub record World : Type 0 where
@@ -104,3 +107,40 @@ put_out site world t net = cond net.released (xor_lists (output_shares site worl
 abbrev pub other_site : Site → Site
 other_site A = B
 other_site B = A
+
+-- ---- what a site sees
+-- r, where the gate is an Input gate of this site
+abbrev pub r_here : Site → Gate → ℕ → List ℕ
+r_here A (Input A index) r = r ∷ []
+r_here A (Input B index) r = []
+r_here B (Input A index) r = []
+r_here B (Input B index) r = r ∷ []
+r_here site (Given index) r = []
+r_here site (Const word) r = []
+r_here site (Xor x y) r = []
+r_here site (And x y) r = []
+r_here site (Spread x lane) r = []
+r_here site (Move x from count to) r = []
+
+-- the words r of a site's Input gates among these gates, before which there were `count` Input gates
+abbrev pub r_words : Site → List ℕ → ℕ → List Gate → List ℕ
+r_words site r count [] = []
+r_words site r count (gate ∷ gates) = r_here site gate (slice_index r count) ++ r_words site r (inputs_after count gate) gates
+
+pub record UnitWords : Type 0 where
+  pub own : List ℕ
+  pub other : List ℕ
+  pub gates : List GateView
+  pub masks : List ℕ
+
+abbrev pub gate_view : Triple → Masked → GateView
+gate_view t m = record { a = t.a; b = t.b; c = t.c; d = m.d; e = m.e }
+
+-- its part of the section, and for each And gate the two words that it received
+abbrev pub view_of : Site → World → Layout → Net → UnitWords
+view_of site world t net = record {
+  own = r_words site t.r 0 net.gates;
+  other = r_words (other_site site) t.r 0 net.gates;
+  gates = zip2 gate_view (part_of site t).triples (sent_to site (walk world t net.gates));
+  masks = t.masks;
+}

@@ -1,10 +1,11 @@
--- A small run, worked out apart from these definitions (by two machines in another language).
-use Rattle.std.specs.Prelude.{◌≡◌, ℕ, true, List, [], ◌∷◌}
+-- Small runs, worked out apart from these definitions (by two machines in another language).
+use Rattle.std.specs.Prelude.{◌≡◌, ℕ, true, false, List, [], ◌∷◌}
 use Rattle.pdn_circuit.specs.Gates.{Net}
 use Rattle.pdn_circuit.specs.declared.gate.Gate.TheVariants.{Input, Const, Xor, And, Spread, Move}
 use Rattle.pdn_base.specs.declared.site.Site.TheVariants.{A, B}
 use Rattle.pdn_dealer.specs.Sections.{layout_of}
-use Rattle.pdn_gmw.specs.Shares.{World, Masked, walk, put_out}
+use Rattle.pdn_gmw.specs.Shares.{World, Masked, walk, view_of, put_out}
+use Rattle.pdn_gmw.specs.Steps.{rounds_of, frame_count}
 
 abbrev pub frame : ℕ → ℕ → Masked
 frame d e = record { d = d; e = e }
@@ -29,3 +30,31 @@ pub record SmallRun : Type 0 where
   pub from_b : (walk small_world (layout_of small_net small_words) small_net.gates).from_b ≡ frame 4241640638930627398 7713377833198341572 ∷ frame 10165027665383847897 10430779633273967663 ∷ []
   pub out_a : put_out A small_world (layout_of small_net small_words) small_net ≡ 14725913091525315582 ∷ 8823639677560553654 ∷ []
   pub out_b : put_out B small_world (layout_of small_net small_words) small_net ≡ 12128143130283215838 ∷ 8823639677560554678 ∷ []
+
+-- ---- one And gate, whose word is released
+abbrev pub and_net : Net
+and_net = record { gates = Input A 0 ∷ Input B 0 ∷ And 0 1 ∷ []; outputs = 2 ∷ []; released = true }
+
+abbrev pub and_world : World
+and_world = record { inputs = record { a = 240 ∷ []; b = 60 ∷ []; given = [] }; given_a = [] }
+
+abbrev pub and_words : List ℕ
+and_words = 15 ∷ 51 ∷ 85 ∷ 15 ∷ 51 ∷ 255 ∷ 170 ∷ 1 ∷ []
+
+-- two And gates that read inputs alone, and one that reads another
+abbrev pub side_by_side : Net
+side_by_side = record { gates = Input A 0 ∷ Input B 0 ∷ And 0 1 ∷ And 1 0 ∷ []; outputs = 3 ∷ []; released = false }
+
+abbrev pub in_a_chain : Net
+in_a_chain = record { gates = Input A 0 ∷ Input B 0 ∷ And 0 1 ∷ And 2 1 ∷ []; outputs = 3 ∷ []; released = false }
+
+pub record OneAnd : Type 0 where
+  pub from_a : (walk and_world (layout_of and_net and_words) and_net.gates).from_a ≡ frame 170 0 ∷ []
+  pub from_b : (walk and_world (layout_of and_net and_words) and_net.gates).from_b ≡ frame 0 240 ∷ []
+  pub view_a : view_of A and_world (layout_of and_net and_words) and_net ≡ record { own = 15 ∷ []; other = 51 ∷ []; gates = record { a = 85; b = 51; c = 170; d = 0; e = 240 } ∷ []; masks = 1 ∷ [] }
+  pub view_b : view_of B and_world (layout_of and_net and_words) and_net ≡ record { own = 51 ∷ []; other = 15 ∷ []; gates = record { a = 15; b = 255; c = 226; d = 170; e = 0 } ∷ []; masks = 1 ∷ [] }
+  pub out_a : put_out A and_world (layout_of and_net and_words) and_net ≡ 121 ∷ []
+  pub out_b : put_out B and_world (layout_of and_net and_words) and_net ≡ 73 ∷ []
+  pub one_frame : frame_count and_net ≡ 1
+  pub rounds : rounds_of side_by_side ≡ 1 ∷ 1 ∷ []
+  pub rounds_of_chain : rounds_of in_a_chain ≡ 1 ∷ 2 ∷ []

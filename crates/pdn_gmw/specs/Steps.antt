@@ -1,18 +1,19 @@
 -- A half as it goes: what it holds, what its next step gives, and what it holds after each call.
-use Rattle.std.specs.Prelude.{◌≡◌, ℕ, zero, suc, ◌+◌, Bool, cond, map, nat_lt, List, [], ◌∷◌, length, replicate, Result, Ok, Err, slice_index}
-use Rattle.std.specs.List.{flat_map, range_with_len}
+use Rattle.std.specs.Prelude.{◌≡◌, ℕ, zero, suc, ◌+◌, max, Bool, cond, map, nat_lt, List, [], ◌∷◌, length, replicate, Result, Ok, Err, slice_index}
+use Rattle.std.specs.List.{fold, flat_map}
 use Rattle.pdn_base.specs.Words.{◌⊕◌, xor_lists}
 use Rattle.pdn_base.specs.declared.site.Site.{Site}
 use Rattle.pdn_base.specs.declared.site.Site.TheVariants.{A, B}
 use Rattle.pdn_circuit.specs.Gates.{Net, InputWords, input_count, given_count, output_words}
+use Rattle.pdn_circuit.specs.Depths.{and_rounds, depths_of}
 use Rattle.pdn_dealer.specs.declared.parts.Triple.{Triple}
 use Rattle.pdn_dealer.specs.Sections.{Five, Layout, PartWords, part_of, Covers, r_count, five_count, mask_count}
 use Rattle.pdn_gmw.specs.declared.stage.Stage.{Stage}
 use Rattle.pdn_gmw.specs.declared.stage.Stage.TheVariants.{Ready, Sent, Wanting, Over}
 use Rattle.pdn_gmw.specs.declared.step.FrameErr.{FrameErr}
 use Rattle.pdn_gmw.specs.declared.step.FrameErr.TheVariants.{Length}
-use Rattle.pdn_gmw.specs.Shares.{Masked, blank}
-use Rattle.pdn_gmw.specs.Halves.{HalfWords, half_walk, half_outputs}
+use Rattle.pdn_gmw.specs.Shares.{Masked, blank, UnitWords}
+use Rattle.pdn_gmw.specs.Halves.{HalfWords, half_walk, half_view, half_outputs}
 use Rattle.pdn_gmw.specs.Rounds.{pick, put}
 
 -- what a half began with, what it heard for each And gate (blank where nothing has come), how many frames it has
@@ -40,13 +41,13 @@ abbrev pub begun : Net → HalfWords → HalfState
 begun net half = record { net = net; half = half; heard = replicate (five_count net) blank; taken = 0; stage = Ready }
 
 -- ---- frames
--- in which round the words of each And gate go, in gate order: each gate has a round of its own
+-- in which round the words of each And gate go, in gate order: that of its depth
 abbrev pub rounds_of : Net → List ℕ
-rounds_of net = range_with_len 1 (five_count net)
+rounds_of net = and_rounds net.gates (depths_of net.gates)
 
--- how many frames each half sends
+-- how many frames each half sends: as many as the deepest gate is deep
 abbrev pub frame_count : Net → ℕ
-frame_count net = five_count net
+frame_count net = fold max 0 (depths_of net.gates)
 
 abbrev pub masked_words : Masked → List ℕ
 masked_words m = m.d ∷ m.e ∷ []
@@ -105,10 +106,11 @@ pub record FinishedHalf : Type 0 where
   pub site : Site
   pub own : List ℕ
   pub given : List ℕ
+  pub view : UnitWords
   pub outputs : List ℕ
 
-abbrev pub finished_of : Net → HalfWords → List ℕ → FinishedHalf
-finished_of net half outputs = record { net = net; site = half.site; own = half.own; given = half.given; outputs = outputs }
+abbrev pub finished_of : Net → HalfWords → UnitWords → List ℕ → FinishedHalf
+finished_of net half view outputs = record { net = net; site = half.site; own = half.own; given = half.given; view = view; outputs = outputs }
 
 abbrev pub finished : HalfState → FinishedHalf
-finished s = finished_of s.net s.half (half_outputs s.half s.heard s.net)
+finished s = finished_of s.net s.half (half_view s.half s.heard s.net) (half_outputs s.half s.heard s.net)

@@ -1,10 +1,12 @@
 //! What a half finished with.
-ghost use Rattle.std.specs.Prelude.{◌≡◌, ◌<◌, ℕ, length, slice_index, IfOk};
-ghost use Rattle.pdn_circuit.specs.Gates.{IsCircuit};
-ghost use Rattle.pdn_gmw.specs.Steps.{shares_out, Fits, finished_of};
+ghost use Rattle.std.specs.Prelude.{◌≡◌, length, []};
+ghost use Rattle.pdn_gmw.specs.Known.{held};
+ghost use Rattle.pdn_dealer.specs.Sections.{mask_count};
+ghost use Rattle.pdn_gmw.specs.Steps.{shares_out};
 
 use crate::holdings::Holdings;
-use pdn_base::Word;
+use crate::views::UnitView;
+use pdn_base::{Site, Word};
 use pdn_circuit::Circuit;
 use std::marker::Model;
 
@@ -12,27 +14,61 @@ use std::marker::Model;
 #[derive(Drop)]
 pub struct Finished {
     circuit: Circuit,
-    holdings: Holdings,
+    site: Site,
+    own: Vec<Word>,
+    given: Vec<Word>,
+    view: UnitView,
     outputs: Vec<Word>,
 }
 
 impl Model for Finished {
-    ghost use Rattle.pdn_gmw.specs.Steps.{FinishedHalf, finished_of};
+    ghost use Rattle.pdn_gmw.specs.Steps.{FinishedHalf};
 
     ghost Value = { FinishedHalf };
 
-    ghost view = { λ f. finished_of f.circuit f.holdings f.outputs.items };
+    ghost view = { λ f. record {
+      net = f.circuit;
+      site = f.site;
+      own = f.own.items;
+      given = f.given.items;
+      view = f.view;
+      outputs = f.outputs.items;
+    } };
 }
 
 impl Finished {
-    pub(crate) fn of(circuit: Circuit, holdings: Holdings, outputs: Vec<Word>) -> Finished
-        ensures { result ≡ finished_of circuit holdings outputs.items }
+    pub(crate) fn of(
+        circuit: Circuit,
+        site: Site,
+        own: Vec<Word>,
+        given: Vec<Word>,
+        view: UnitView,
+        outputs: Vec<Word>,
+    ) -> Finished
+        ensures { result ≡ record {
+          net = circuit;
+          site = site;
+          own = own.items;
+          given = given.items;
+          view = view;
+          outputs = outputs.items;
+        } }
     {
         Finished {
             circuit,
-            holdings,
+            site,
+            own,
+            given,
+            view,
             outputs,
         }
+    }
+
+    /// What the site saw of the run.
+    pub fn view(&self) -> &UnitView
+        ensures { result.now ≡ self.now.view }
+    {
+        &self.view
     }
 
     /// The half's shares of the outputs, each under its mask where the circuit is released.
@@ -40,6 +76,15 @@ impl Finished {
         ensures { result.now ≡ self.now.outputs }
     {
         self.outputs.as_slice()
+    }
+
+    /// The view and the shares of the outputs.
+    pub fn into_parts(self) -> (UnitView, Vec<Word>)
+        ensures view { result.0 ≡ self.view }
+        ensures outputs { result.1.items ≡ self.outputs }
+    {
+        let Finished { view, outputs, .. } = self;
+        (view, outputs)
     }
 }
 
@@ -50,10 +95,10 @@ pub(crate) fn write_outputs(
     shares: &[Word],
     outputs: &mut Vec<Word>,
 )
-    requires fits { Fits circuit.now holdings.now }
+    requires masks { length holdings.now.masks ≡ mask_count circuit.now }
     requires shares { length shares.now ≡ length circuit.now.gates }
     requires outputs { length outputs.old.items ≡ length circuit.now.outputs }
-    ensures { outputs.new.items ≡ shares_out circuit.now holdings.now shares.now }
+    ensures { outputs.new.items ≡ shares_out circuit.now (held holdings.now []) shares.now }
 {
     for k in 0..circuit.outputs.len() {
         let share = shares[circuit.outputs[k] as usize];

@@ -1,17 +1,18 @@
 //! One half of a run.
-ghost use Rattle.std.specs.Prelude.{◌≡◌, ◌<◌, ◌^◌, length, IfOk};
+ghost use Rattle.std.specs.Prelude.{◌≡◌, ℕ, ◌*◌, ◌<◌, ◌≤◌, ◌^◌, length, map, replicate, IfOk};
 ghost use Rattle.std.specs.Borrow.{sem};
 
-use crate::advance::{advance, and_at, compute};
 use crate::finished::{Finished, write_outputs};
 use crate::holdings::Holdings;
-use crate::masked::Masked;
-use crate::place::Place;
+use crate::input_masks::r_words;
+use crate::layers::{Layer, layers_of};
+use crate::rounds::{settle_layer, share_rest, write_frame};
 use crate::stage::Stage;
 use crate::step::{FrameErr, Step};
+use crate::views::{GateView, UnitView};
 use pdn_base::{Memory, Site, Word};
 use pdn_circuit::Circuit;
-use pdn_dealer::Part;
+use pdn_dealer::{Part, Triple};
 use std::alloc::Global;
 use std::marker::Model;
 
@@ -20,9 +21,12 @@ use std::marker::Model;
 pub struct Half {
     circuit: Circuit,
     holdings: Holdings,
-    heard: Vec<Masked>,
+    own_r: Vec<Word>,
+    other_r: Vec<Word>,
+    views: Vec<GateView>,
+    layers: Vec<Layer>,
     shares: Vec<Word>,
-    place: Place,
+    taken: usize,
     frame: Vec<Word>,
     outputs: Vec<Word>,
     stage: Stage,
@@ -42,12 +46,12 @@ impl Model for Half {
 
 impl Half {
     ghost use Rattle.pdn_gmw.specs.declared.stage.Stage.TheVariants.{Ready, Wanting, Over};
-    ghost use Rattle.pdn_gmw.specs.Steps.{half_words, Fits, begun, after_next, after_take, masked_words, next_frame, frame_count, IsTaken, finished};
+    ghost use Rattle.pdn_gmw.specs.Steps.{half_words, Fits, begun, after_next, after_take, next_frame, frame_count, IsTaken, finished};
     ghost use Rattle.pdn_circuit.specs.Gates.{IsCircuit};
     ghost use Rattle.pdn_gmw.specs.Given.{IsStep, LeavesStepped};
 
     /// A half of a circuit's run that has made no step. `own` are the site's input words, `given` its shares of
-    /// the given words, and `part` its part of the section.
+    /// the given words, and `part` its part of the section. All that the half will need is reserved here.
     pub fn new(
         alloc: Global,
         circuit: &Circuit,
@@ -59,38 +63,50 @@ impl Half {
         requires { Fits circuit.now (half_words site own.items given.items part) }
         ensures { IfOk result (λ h. h ≡ begun circuit.now (half_words site own.items given.items part)) }
     {
+        let Part { r, triples, masks } = part;
+        let own_r = r_words(alloc, circuit, site, r.as_slice())?;
+        let other_r = r_words(alloc, circuit, other(site), r.as_slice())?;
+        let views = unheard(alloc, triples.as_slice())?;
+        let layers = layers_of(alloc, circuit)?;
         let zero = Word::from_u64(0);
-        let blank = Masked { d: zero, e: zero };
-        let heard = vec![in alloc; blank; part.triples.len()]?;
-        let shares = vec![in alloc; zero; circuit.gates.len()]?;
-        let frame = vec![in alloc; zero; 2]?;
         let outputs = vec![in alloc; zero; circuit.outputs.len()]?;
+        let frame = vec![in alloc; zero; 2 * most_ands(&layers)]?;
+        let holdings = Holdings {
+            site,
+            own,
+            given,
+            r,
+            masks,
+        };
+        let mut shares = holdings.leaf_shares(alloc, circuit)?;
+        share_rest(circuit, layers[0].rest.as_slice(), shares.as_mut_slice());
         let circuit = circuit.copy(alloc)?;
         Ok(Half {
             circuit,
-            holdings: Holdings::new(site, own, given, part),
-            heard,
+            holdings,
+            own_r,
+            other_r,
+            views,
+            layers,
             shares,
-            place: Place {
-                gates: 0,
-                inputs: 0,
-                ands: 0,
-            },
+            taken: 0,
             frame,
             outputs,
             stage: Stage::Ready,
         })
     }
 
-    /// The next step: Send once for each frame, then Want until the other side's frame is taken, and Done at the end.
+    /// The next step: Send once for each frame, then Want until the other side's frame is taken, and Done at the
+    /// end. The frames are those of the depths in order: the k-th has two words for each And gate of depth k, in
+    /// gate order.
     pub fn next(&mut self) -> Step<'_>
         ensures* left { sem 𝓛 (LeavesStepped self.entry) }
         ensures gives { IsStep self.old result }
     {
         self.turn();
         match self.stage {
-            Stage::Sent => Step::Send(self.frame.as_slice()),
-            Stage::Wanting => Step::Want(self.frame.len() as u32),
+            Stage::Sent => Step::Send(&self.frame[..2 * self.layers[self.taken + 1].ands.len()]),
+            Stage::Wanting => Step::Want(self.frame_len() as u32),
             Stage::Ready | Stage::Over => Step::Done,
         }
     }
@@ -102,15 +118,14 @@ impl Half {
         ensures { IsTaken self.old self.new frame.now result }
     {
         let want = self.frame_len();
-        match frame {
-            [d, e] => {
-                self.hear(Masked { d: *d, e: *e });
-                Ok(())
-            }
-            _ => Err(FrameErr::Length {
+        if frame.len() == want {
+            self.settle(frame);
+            Ok(())
+        } else {
+            Err(FrameErr::Length {
                 got: frame.len() as u32,
-                want,
-            }),
+                want: want as u32,
+            })
         }
     }
 
@@ -122,12 +137,28 @@ impl Half {
         let Half {
             circuit,
             holdings,
+            own_r,
+            other_r,
+            views,
             shares,
             mut outputs,
             ..
         } = self;
         write_outputs(&circuit, &holdings, shares.as_slice(), &mut outputs);
-        Finished::of(circuit, holdings, outputs)
+        let Holdings {
+            site,
+            own,
+            given,
+            masks,
+            ..
+        } = holdings;
+        let view = UnitView {
+            own: own_r,
+            other: other_r,
+            gates: views,
+            masks,
+        };
+        Finished::of(circuit, site, own, given, view, outputs)
     }
 
     // How many frames each half sends.
@@ -136,16 +167,16 @@ impl Half {
         ensures fits { Fits self.now.net self.now.half }
         ensures circuit { IsCircuit self.now.net }
     {
-        self.heard.len()
+        self.layers.len() - 1
     }
 
     // How many words the frame of this round has, either way.
-    fn frame_len(&self) -> u32
+    fn frame_len(&self) -> usize
         requires { self.now.stage ≡ Wanting }
         ensures words { result ≡ length (next_frame self.now) }
-        ensures two { result ≡ 2 }
+        ensures few { result < 2 ^ 32 }
     {
-        self.frame.len() as u32
+        2 * self.layers[self.taken + 1].ands.len()
     }
 
     // The step that the next one is, once it is found.
@@ -159,44 +190,85 @@ impl Half {
         }
     }
 
-    // On to the next And gate, whose frame is made, or to the end.
+    // The frame of the next depth is made, where there is one.
     fn begin_round(&mut self)
         requires { self.old.stage ≡ Ready }
         ensures { self.new ≡ after_next self.old }
     {
-        self.place = advance(
-            &self.circuit,
-            &self.holdings,
-            self.heard.as_slice(),
-            &mut self.shares,
-            self.place,
-        );
-        match and_at(&self.circuit, self.place.gates) {
-            Some((x, y)) => {
-                let masked = self
-                    .holdings
-                    .masked(self.shares.as_slice(), self.place.ands, x, y);
-                self.frame[0] = masked.d;
-                self.frame[1] = masked.e;
-                self.stage = Stage::Sent;
-            }
-            None => self.stage = Stage::Over,
+        if self.taken + 1 < self.layers.len() {
+            write_frame(
+                self.layers[self.taken + 1].ands.as_slice(),
+                self.views.as_slice(),
+                self.shares.as_slice(),
+                self.frame.as_mut_slice(),
+            );
+            self.stage = Stage::Sent;
+        } else {
+            self.stage = Stage::Over;
         }
     }
 
-    // The words of the other half for the And gate that comes next.
-    fn hear(&mut self, theirs: Masked)
-        requires { self.old.stage ≡ Wanting }
-        ensures { self.new ≡ after_take self.old (masked_words theirs) }
+    // What came in settles the shares of the next depth.
+    fn settle(&mut self, frame: &[Word])
+        requires wanting { self.old.stage ≡ Wanting }
+        requires long { length frame.now ≡ length (next_frame self.old) }
+        ensures { self.new ≡ after_take self.old frame.now }
     {
-        self.heard[self.place.ands] = theirs;
-        self.place = compute(
+        settle_layer(
             &self.circuit,
-            &self.holdings,
-            self.heard.as_slice(),
-            &mut self.shares,
-            self.place,
+            self.holdings.site(),
+            &self.layers[self.taken + 1],
+            frame,
+            self.views.as_mut_slice(),
+            self.shares.as_mut_slice(),
         );
+        self.taken += 1;
         self.stage = Stage::Ready;
     }
+}
+
+ghost use Rattle.pdn_base.specs.declared.site.Site.{Site};
+ghost use Rattle.pdn_gmw.specs.Shares.{other_site};
+ghost use Rattle.pdn_gmw.specs.Known.{unheard};
+ghost use Rattle.pdn_gmw.specs.Layers.{LayerWords, no_layer};
+ghost use Rattle.std.specs.Prelude.{slice_index_or};
+
+fn other(site: Site) -> Site
+    ensures { result ≡ other_site site }
+{
+    match site {
+        Site::A => Site::B,
+        Site::B => Site::A,
+    }
+}
+
+// The views of the And gates before anything has come in.
+fn unheard(alloc: Global, triples: &[Triple]) -> Result<Vec<GateView>, Memory>
+    ensures { IfOk result (λ views. views.items ≡ map unheard triples.now) }
+{
+    let zero = Word::from_u64(0);
+    let mut views = Vec::with_capacity(alloc, triples.len())?;
+    for triple in triples {
+        views.push(GateView {
+            a: triple.a,
+            b: triple.b,
+            c: triple.c,
+            d: zero,
+            e: zero,
+        })?;
+    }
+    Ok(views)
+}
+
+// As many And gates as a layer has, and no fewer than any other.
+fn most_ands(layers: &[Layer]) -> usize
+    requires { (d : ℕ) → length (slice_index_or layers.now d no_layer).ands < 2 ^ 31 }
+    ensures most { (d : ℕ) → length (slice_index_or layers.now d no_layer).ands ≤ result }
+    ensures few { result < 2 ^ 31 }
+{
+    let mut most = 0;
+    for layer in layers {
+        most = most.max(layer.ands.len());
+    }
+    most
 }

@@ -1,86 +1,82 @@
-//! What a half begins with, and its share of one gate.
-ghost use Rattle.std.specs.Prelude.{◌≡◌, ◌<◌, ℕ, IsTrue, length, slice_index};
-ghost use Rattle.pdn_gmw.specs.Halves.{half_input, half_const, half_product, share_from, masked_from, IsOwn, CanShare};
-ghost use Rattle.pdn_gmw.specs.Steps.{half_words, covered};
+//! What a half begins with, and its shares of the gates that read no other.
+ghost use Rattle.std.specs.Prelude.{◌≡◌, ◌<◌, ◌≤◌, ◌^◌, ℕ, IsTrue, true, length, map, slice_index, IfOk};
+ghost use Rattle.std.specs.List.{range_with_len};
+ghost use Rattle.pdn_circuit.specs.Gates.{is_input};
+ghost use Rattle.pdn_gmw.specs.Shares.{inputs_after};
+ghost use Rattle.pdn_gmw.specs.Halves.{half_input, half_const, IsOwn};
+ghost use Rattle.pdn_gmw.specs.Known.{leaf_share, CanLeaf, leaf_at, HasLeaves};
+ghost use Rattle.pdn_gmw.specs.Steps.{covered};
 
-use crate::masked::Masked;
-use pdn_base::{Site, Word};
-use pdn_circuit::Gate;
-use pdn_dealer::{Part, Triple};
+use pdn_base::{Memory, Site, Word};
+use pdn_circuit::{Circuit, Gate};
+use std::alloc::Global;
 use std::marker::Model;
 
-/// A site's own words, its shares of the given words, and its part of the section.
+/// A site's own words, its shares of the given words, and of its part the words r and the masks.
 #[derive(Drop)]
 pub struct Holdings {
-    site: Site,
-    own: Vec<Word>,
-    given: Vec<Word>,
-    r: Vec<Word>,
-    triples: Vec<Triple>,
-    masks: Vec<Word>,
+    pub site: Site,
+    pub own: Vec<Word>,
+    pub given: Vec<Word>,
+    pub r: Vec<Word>,
+    pub masks: Vec<Word>,
 }
 
 impl Model for Holdings {
-    ghost use Rattle.pdn_gmw.specs.Halves.{HalfWords};
+    ghost use Rattle.pdn_gmw.specs.Known.{HeldWords};
 
-    ghost Value = { HalfWords };
+    ghost Value = { HeldWords };
 
     ghost view = { λ h. record {
       site = h.site;
       own = h.own.items;
       given = h.given.items;
-      part = record { r = h.r.items; triples = h.triples.items; masks = h.masks.items };
+      r = h.r.items;
+      masks = h.masks.items;
     } };
 }
 
 impl Holdings {
-    pub fn new(site: Site, own: Vec<Word>, given: Vec<Word>, part: Part) -> Holdings
-        ensures { result ≡ half_words site own.items given.items part }
+    pub fn site(&self) -> Site
+        ensures { result ≡ self.now.site }
     {
-        let Part { r, triples, masks } = part;
-        Holdings {
-            site,
-            own,
-            given,
-            r,
-            triples,
-            masks,
-        }
+        self.site
     }
 
-    /// The share of a gate, where so many Input gates and And gates stand before it.
-    pub fn share(
-        &self,
-        heard: &[Masked],
-        shares: &[Word],
-        inputs: usize,
-        ands: usize,
-        gate: &Gate,
-    ) -> Word
-        requires { CanShare self.now heard.now (length shares.now) inputs ands gate.now }
-        ensures { result ≡ share_from self.now heard.now shares.now inputs ands gate.now }
+    /// The shares of the Input, Given and Const gates in their places among all gates, and zero at the others.
+    pub fn leaf_shares(&self, alloc: Global, circuit: &Circuit) -> Result<Vec<Word>, Memory>
+        requires { HasLeaves circuit.now self.now }
+        ensures { IfOk result (λ shares. shares.items ≡ map (leaf_at self.now circuit.now.gates) (range_with_len 0 (length circuit.now.gates))) }
+    {
+        let mut shares = Vec::with_capacity(alloc, circuit.gates.len())?;
+        let mut inputs = 0;
+        for gate in &circuit.gates {
+            let share = self.leaf_share(inputs, gate);
+            shares.push(share)?;
+            inputs = inputs_past(gate, inputs);
+        }
+        Ok(shares)
+    }
+
+    // The share of such a gate, where so many Input gates stand before it.
+    fn leaf_share(&self, inputs: usize, gate: &Gate) -> Word
+        requires { CanLeaf self.now inputs gate.now }
+        ensures { result ≡ leaf_share self.now inputs gate.now }
     {
         match gate {
             Gate::Input { site, index } => self.input_share(*site, *index as usize, inputs),
             Gate::Given { index } => self.given[*index as usize],
             Gate::Const { word } => self.const_share(word),
-            Gate::Xor { a, b } => shares[*a as usize].xor(&shares[*b as usize]),
-            Gate::And { a, b } => {
-                let mine = self.masked(shares, ands, *a as usize, *b as usize);
-                let theirs = heard[ands];
-                let d = mine.d.xor(&theirs.d);
-                let e = mine.e.xor(&theirs.e);
-                product_share(self.site, &self.triples[ands], &d, &e)
+            Gate::Xor { .. } | Gate::And { .. } | Gate::Spread { .. } | Gate::Move { .. } => {
+                Word::from_u64(0)
             }
-            Gate::Spread { a, lane } => shares[*a as usize].spread(*lane),
-            Gate::Move { a, from, count, to } => shares[*a as usize].move_lanes(*from, *count, *to),
         }
     }
 
     /// The share of output number `at`, as it is put out.
     pub fn cover(&self, released: bool, at: usize, share: &Word) -> Word
-        requires { IsTrue released → at < length self.now.part.masks }
-        ensures { result ≡ covered released self.now.part.masks at share.now }
+        requires { IsTrue released → at < length self.now.masks }
+        ensures { result ≡ covered released self.now.masks at share.now }
     {
         if released {
             share.xor(&self.masks[at])
@@ -92,8 +88,8 @@ impl Holdings {
     // A site masks its own input by r, and holds r alone of the other's.
     fn input_share(&self, from: Site, index: usize, at: usize) -> Word
         requires own { IsOwn self.now.site from index (length self.now.own) }
-        requires r { at < length self.now.part.r }
-        ensures { result ≡ half_input self.now.site from (slice_index self.now.own index) (slice_index self.now.part.r at) }
+        requires r { at < length self.now.r }
+        ensures { result ≡ half_input self.now.site from (slice_index self.now.own index) (slice_index self.now.r at) }
     {
         match (self.site, from) {
             (Site::A, Site::A) | (Site::B, Site::B) => self.own[index].xor(&self.r[at]),
@@ -110,29 +106,15 @@ impl Holdings {
             Site::B => Word::from_u64(0),
         }
     }
-
-    /// What the site sends for And gate number `at`, of these two gates.
-    pub fn masked(&self, shares: &[Word], at: usize, x: usize, y: usize) -> Masked
-        requires triple { at < length self.now.part.triples }
-        requires x { x < length shares.now }
-        requires y { y < length shares.now }
-        ensures { result ≡ masked_from self.now shares.now at x y }
-    {
-        let triple = self.triples[at];
-        Masked {
-            d: shares[x].xor(&triple.a),
-            e: shares[y].xor(&triple.b),
-        }
-    }
 }
 
-// A site's share of a product, where both operands are open under their masks: A alone adds their product.
-fn product_share(site: Site, triple: &Triple, d: &Word, e: &Word) -> Word
-    ensures { result ≡ half_product site triple.now d.now e.now }
+// How many Input gates there are with this one.
+fn inputs_past(gate: &Gate, inputs: usize) -> usize
+    requires { inputs < 2 ^ 63 }
+    ensures { result ≡ inputs_after inputs gate.now }
 {
-    let share = triple.c.xor(&d.and(&triple.b)).xor(&e.and(&triple.a));
-    match site {
-        Site::A => share.xor(&d.and(e)),
-        Site::B => share,
+    match gate {
+        Gate::Input { .. } => inputs + 1,
+        _ => inputs,
     }
 }

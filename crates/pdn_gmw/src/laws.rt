@@ -1,7 +1,7 @@
 //! Laws of the definitions alone.
 ghost use Rattle.pdn_gmw.specs.Halves.{HalvesLaw, RunLaw};
 ghost use Rattle.pdn_gmw.specs.Rounds.{RoundLaw, DepthLaw};
-ghost use Rattle.pdn_gmw.specs.SmallRun.{SmallRun};
+ghost use Rattle.pdn_gmw.specs.SmallRun.{SmallRun, OneAnd};
 
 /// Two halves of one section that heard what the other sends hold the shares which the plain values say, and
 /// their outputs come to the plain words.
@@ -20,4 +20,9 @@ pub fn rounds_tell_the_same()
 /// The definitions give the words of a small run that was worked out apart from them.
 pub fn small_run_comes_out()
     ensures { SmallRun }
+{}
+
+/// The same of one And gate, with its frames and what each side sees, and of the depths of two.
+pub fn one_and_comes_out()
+    ensures { OneAnd }
 {}

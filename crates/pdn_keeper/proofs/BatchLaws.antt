@@ -1,19 +1,21 @@
 -- The batches of a site one by one.
-use Rattle.std.proofs.Common.{◌≡◌, ℕ, ◌-◌, ◌^◌, zero, suc, ◌+◌, ◌<◌, ◌≤◌, Bool, true, false, cond, List, [], ◌∷◌, ◌++◌, length, drop, get_or, Some, None, Ok, Err, refl, sym, ap, ap₂, subst, ◌∙◌, arith, rules, inl, inr}
-use Rattle.std.specs.Prelude.{Option, Result, ◌&&◌, ◌==◌, if◌then◌else◌, OnOk}
+use Rattle.std.proofs.Common.{◌≡◌, ℕ, ◌-◌, ◌^◌, ◌+◌, ◌<◌, ◌≤◌, Bool, true, false, cond, List, [], ◌∷◌, ◌++◌, length, drop, get_or, Some, None, Ok, Err, refl, sym, ap, subst, ◌∙◌, arith}
+use Rattle.std.specs.Prelude.{Option, Result, ◌&&◌, ◌==◌, if◌then◌else◌, OnOk, IfErr}
 use Rattle.std.specs.Str.{bytes_eq}
 use Rattle.std.specs.List.{All, find}
 use Rattle.std.proofs.lemmas.List.{append_assoc, append-nil, drop_more, drop_all, length-append}
 use Rattle.std.proofs.lemmas.Slice.Eq.{bytes_eq-Decides}
 use Rattle.std.proofs.lemmas.List.Elements.{All-append}
+use Rattle.std.proofs.lemmas.Option.{slice_get_within}
 use Rattle.pdn_base.specs.Bounds.{IsShort}
 use Rattle.pdn_base.specs.declared.value.Value.{Value}
 use Rattle.pdn_schema.specs.Models.{TableModel}
-use Rattle.pdn_schema.specs.Rows.{HasKinds, IsValid, KeepEach}
+use Rattle.pdn_schema.specs.Rows.{HasKinds, IsValid}
 use Rattle.pdn_keeper.specs.declared.site_keeper.Added.{Added}
 use Rattle.pdn_keeper.specs.declared.site_keeper.Added.TheVariants.{New, Again}
 use Rattle.pdn_keeper.specs.declared.site_keeper.AddErr.{AddErr}
-use Rattle.pdn_keeper.specs.Batches.{BatchHeld, batch_held, kept_rows, is_batch, kept_batch, IsTaken, IsCompared, IsAnswerBy, IsAnswer, Stands}
+use Rattle.pdn_keeper.specs.declared.site_keeper.AddErr.TheVariants.{Differs, OverRows, OverPer, Failed, Memory}
+use Rattle.pdn_keeper.specs.Batches.{BatchHeld, batch_held, kept_rows, is_batch, kept_batch, IsTaken, IsCompared, IsAnswerBy, IsAnswer, NamesColumn, Stands}
 
 -- ---- the rows of a table
 
@@ -112,3 +114,26 @@ stays_valid t old new number rows (Ok New) answer stands = λ kinds valid.
     (valid_more t (kept_rows t.name old) rows (taken_new (kept_batch t.name number old) t (kept_rows t.name old) rows answer) kinds valid)
 stays_valid t old new number rows (Ok Again) answer stands = λ kinds valid. subst (λ (held : List BatchHeld). IsValid t (kept_rows t.name held)) (sym (some_same stands)) valid
 stays_valid t old new number rows (Err e) answer stands = tt
+
+-- ---- an answer names no column but the table's
+taken_column : (t : TableModel) (kept rows : List (List Value)) (e : AddErr) → IsTaken t kept rows (Err e) → NamesColumn t.columns e
+taken_column t kept rows (Differs at row) is = tt
+taken_column t kept rows (OverRows count) is = tt
+taken_column t kept rows (OverPer column value count) is = slice_get_within t.columns column is.1.column is.1.is
+taken_column t kept rows Failed is = tt
+taken_column t kept rows Memory is = tt
+
+compared_column : (t : TableModel) (kept rows : List (List Value)) (e : AddErr) → IsCompared kept rows (Err e) → NamesColumn t.columns e
+compared_column t kept rows (Differs at row) is = tt
+compared_column t kept rows (OverRows count) is = tt
+compared_column t kept rows (OverPer column value count) is = absurd is
+compared_column t kept rows Failed is = tt
+compared_column t kept rows Memory is = tt
+
+answer_column : (found : Option BatchHeld) (t : TableModel) (kept rows : List (List Value)) (e : AddErr) → IsAnswerBy found t kept rows (Err e) → NamesColumn t.columns e
+answer_column None t kept rows e is = taken_column t kept rows e is
+answer_column (Some batch) t kept rows e is = compared_column t batch.rows rows e is
+
+pub names_column : (t : TableModel) (held : List BatchHeld) (number : ℕ) (rows : List (List Value)) (result : Result Added AddErr) → IsAnswer t held number rows result → IfErr result (NamesColumn t.columns)
+names_column t held number rows (Ok added) is = tt
+names_column t held number rows (Err e) is = answer_column (kept_batch t.name number held) t (kept_rows t.name held) rows e is

@@ -91,6 +91,14 @@ IsAnswerBy None t kept rows result = IsTaken t kept rows result
 abbrev pub IsAnswer : TableModel → List BatchHeld → ℕ → List (List Value) → Result Added AddErr → Type 0
 IsAnswer t held number rows result = IsAnswerBy (kept_batch t.name number held) t (kept_rows t.name held) rows result
 
+-- a column that is said to be over its bound is one of these
+abbrev pub NamesColumn : List Column → AddErr → Type 0
+NamesColumn columns (Differs at row) = ⊤
+NamesColumn columns (OverRows count) = ⊤
+NamesColumn columns (OverPer column value count) = column < length columns
+NamesColumn columns Failed = ⊤
+NamesColumn columns Memory = ⊤
+
 abbrev pub with_batch : BatchHeld → Option (List BatchHeld) → Option (List BatchHeld)
 with_batch batch held = option_map (λ batches. batches ++ batch ∷ []) held
 

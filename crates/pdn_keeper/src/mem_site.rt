@@ -161,13 +161,13 @@ impl MemSite {
 }
 
 impl SiteKeeper for MemSite {
-    ghost use Rattle.std.specs.Prelude.{◌≡◌, ◌<◌, ◌↔◌, length, OnOk, IfOk, IsErrOf, IsTrue, Some};
+    ghost use Rattle.std.specs.Prelude.{◌≡◌, ◌<◌, ◌↔◌, length, OnOk, IfOk, IfErr, IsErrOf, IsTrue, Some};
     ghost use Rattle.std.specs.List.{All};
     ghost use Rattle.pdn_base.specs.Bounds.{IsShort};
     ghost use Rattle.pdn_base.specs.Outside.{HasCause, called, fails_next};
     ghost use Rattle.pdn_schema.specs.Models.{table_of};
     ghost use Rattle.pdn_schema.specs.Rows.{HasKinds, IsValid};
-    ghost use Rattle.pdn_keeper.specs.Batches.{kept_rows, batch_held, IsAnswer, Stands};
+    ghost use Rattle.pdn_keeper.specs.Batches.{kept_rows, batch_held, IsAnswer, NamesColumn, Stands};
 
     ghost batches = { λ s. Some s.batches };
 
@@ -199,6 +199,7 @@ impl SiteKeeper for MemSite {
     ) -> Result<Added, AddErr>
         requires in_range { table < length schema.now.tables }
         ensures answer { IsAnswer (table_of schema.now table) self.old.batches batch rows.now result }
+        ensures column { IfErr result (NamesColumn (table_of schema.now table).columns) }
         ensures stands { Stands (Some self.old.batches) (Some self.new.batches) (batch_held (table_of schema.now table).name batch rows.now) result }
         ensures valid { OnOk result (
             All (HasKinds (table_of schema.now table).columns) rows.now → IsValid (table_of schema.now table) (kept_rows (table_of schema.now table).name self.old.batches)

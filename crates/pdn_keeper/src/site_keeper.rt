@@ -1,11 +1,11 @@
 //! Who keeps a site's rows.
-ghost use Rattle.std.specs.Prelude.{◌≡◌, ◌<◌, List, ℕ, Option, length, IfOk, IfSome, IsErrOf, OnOk};
+ghost use Rattle.std.specs.Prelude.{◌≡◌, ◌<◌, List, ℕ, Option, length, IfOk, IfErr, IfSome, IsErrOf, OnOk};
 ghost use Rattle.std.specs.List.{All};
 ghost use Rattle.pdn_base.specs.Bounds.{IsShort};
 ghost use Rattle.pdn_base.specs.Outside.{HasCause};
 ghost use Rattle.pdn_schema.specs.Models.{table_of};
 ghost use Rattle.pdn_schema.specs.Rows.{HasKinds, IsValid};
-ghost use Rattle.pdn_keeper.specs.Batches.{BatchHeld, kept_rows, batch_held, IsAnswer, Stands};
+ghost use Rattle.pdn_keeper.specs.Batches.{BatchHeld, kept_rows, batch_held, IsAnswer, NamesColumn, Stands};
 ghost use Rattle.pdn_keeper.specs.declared.site_keeper.KeepErr.TheVariants.{Memory as RowsMemory};
 ghost use Rattle.pdn_keeper.specs.declared.site_keeper.AddErr.TheVariants.{Memory as AddMemory};
 
@@ -97,7 +97,7 @@ pub trait SiteKeeper {
 
     /// Takes a batch of a table. The number decides first: where it is kept, the answer is Again or Differs, as the kept
     /// rows are these or others. Else the batch must leave the table within its bounds, OverRows before OverPer, and is
-    /// then appended. What is kept stays after every answer but New; after Failed the batch is appended or nothing changed.
+    /// then appended; OverPer names a column of the table. What is kept stays after every answer but New; after Failed the batch is appended or nothing changed.
     fn add_batch(
         &mut self,
         alloc: Global,
@@ -108,6 +108,7 @@ pub trait SiteKeeper {
     ) -> Result<Added, AddErr>
         requires in_range { table < length schema.now.tables }
         ensures answer { IfSome (batches self.old) (λ held. IsAnswer (table_of schema.now table) held batch rows.now result) }
+        ensures column { IfErr result (NamesColumn (table_of schema.now table).columns) }
         ensures stands { Stands (batches self.old) (batches self.new) (batch_held (table_of schema.now table).name batch rows.now) result }
         ensures valid { IfSome (batches self.old) (λ held. OnOk result (
             All (HasKinds (table_of schema.now table).columns) rows.now → IsValid (table_of schema.now table) (kept_rows (table_of schema.now table).name held)

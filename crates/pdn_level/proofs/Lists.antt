@@ -7,8 +7,8 @@ use Rattle.pdn_base.specs.declared.value.Value.TheVariants as value
 use Rattle.pdn_base.specs.Values.{cell, cut}
 use Rattle.pdn_base.specs.Bags.{pairs}
 use Rattle.pdn_base.specs.Operators.{joined, project_rows}
-use Rattle.pdn_plan.specs.Meaning.{Rows}
-use Rattle.pdn_plan.specs.Columns.{Wide, Has, place_in}
+use Rattle.pdn_tree.specs.Meaning.{Rows}
+use Rattle.pdn_tree.specs.Columns.{Wide, Has, place_in}
 
 pub filter-map : {X Y : Type 0} (p : Y → Bool) (f : X → Y) (xs : List X) → filter p (map f xs) ≡ map f (filter (λ x. p (f x)) xs)
 filter-map p f [] = refl

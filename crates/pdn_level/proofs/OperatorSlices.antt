@@ -14,8 +14,8 @@ use Rattle.pdn_base.specs.Bags.{pairs, times, distinct, SameBag, TestsEquality}
 use Rattle.pdn_base.specs.Operators.{filter_rows, project_rows, join_rows, joined, group_rows, distinct_rows, number_rows, number_from, numbered_row, place_of, before_in, counted, allows}
 use Rattle.pdn_base.proofs.BagLaws.{filter-swap, times-filter}
 use Rattle.pdn_base.proofs.RowLaws.{same_row-tests}
-use Rattle.pdn_plan.specs.Meaning.{Rows}
-use Rattle.pdn_plan.specs.Columns.{Wide, Has, place_in}
+use Rattle.pdn_tree.specs.Meaning.{Rows}
+use Rattle.pdn_tree.specs.Columns.{Wide, Has, place_in}
 use Rattle.pdn_level.specs.Cutting.{same_value, at}
 use Rattle.pdn_level.proofs.Lists.{cell-left, cell-right, cell-cut-at, cell-cut, filter-map, filter-agree, filter-filter, filter-none, wide-project, all_on, all_filter, passes}
 

@@ -14,11 +14,11 @@ use Rattle.pdn_base.specs.Operators.{filter_rows, project_rows, join_rows, joine
 use Rattle.pdn_base.proofs.RowLaws.{same_row-tests, value_cmp-ties, is_eq-tie}
 use Rattle.pdn_schema.specs.Models.{SchemaModel}
 use Rattle.pdn_schema.specs.Rows.{AreValid, union}
-use Rattle.pdn_plan.specs.declared.node.Node.{Node, Node-F, fold-roll-Node}
-use Rattle.pdn_plan.specs.declared.node.Node.TheFolds.{ind-Node, map-Node}
-use Rattle.pdn_plan.specs.Shapes.{table_columns}
-use Rattle.pdn_plan.specs.Meaning.{Rows, mean_step}
-use Rattle.pdn_plan.specs.Columns.{Wide, has}
+use Rattle.pdn_tree.specs.declared.node.Node.{Node, Node-F, fold-roll-Node}
+use Rattle.pdn_tree.specs.declared.node.Node.TheFolds.{ind-Node, map-Node}
+use Rattle.pdn_tree.specs.Shapes.{table_columns}
+use Rattle.pdn_tree.specs.Meaning.{Rows, mean_step}
+use Rattle.pdn_tree.specs.Columns.{Wide, has}
 use Rattle.pdn_level.specs.declared.staged.Leaf.{Leaf}
 use Rattle.pdn_level.specs.Links.{slice_at, links, names_column, link_at}
 use Rattle.pdn_level.specs.Slices.{Followed, followed, followed_step, slices, linked, among}

@@ -12,9 +12,9 @@ use Rattle.pdn_base.proofs.Perms.{Perm-length}
 use Rattle.pdn_base.proofs.Listing.{listed-rows}
 use Rattle.pdn_schema.specs.Models.{SchemaModel}
 use Rattle.pdn_schema.specs.Rows.{AreValid, union}
-use Rattle.pdn_plan.specs.declared.node.Node.{Node, Node-F, fold-roll-Node, out-Node, roll-Node, out-roll-Node}
-use Rattle.pdn_plan.specs.declared.node.Node.TheFolds.{ind-Node, map-Node}
-use Rattle.pdn_plan.specs.Meaning.{Rows, mean, mean_step}
+use Rattle.pdn_tree.specs.declared.node.Node.{Node, Node-F, fold-roll-Node, out-Node, roll-Node, out-roll-Node}
+use Rattle.pdn_tree.specs.declared.node.Node.TheFolds.{ind-Node, map-Node}
+use Rattle.pdn_tree.specs.Meaning.{Rows, mean, mean_step}
 use Rattle.pdn_level.specs.declared.staged.Level.{Level}
 use Rattle.pdn_level.specs.declared.staged.Level.TheVariants as level
 use Rattle.pdn_level.specs.Levels.{Survey, survey, survey_step, level_of_node}

@@ -12,11 +12,11 @@ use Rattle.pdn_base.specs.Conditions.{meets}
 use Rattle.pdn_base.specs.Bags.{pairs, times, distinct}
 use Rattle.pdn_base.specs.Operators.{filter_rows, project_rows, join_rows, joined, group_rows, distinct_rows, number_rows, number_from, place_of, counted, allows}
 use Rattle.pdn_schema.specs.Models.{SchemaModel}
-use Rattle.pdn_plan.specs.declared.node.Node.{Node, Node-F, fold-roll-Node}
-use Rattle.pdn_plan.specs.declared.node.Node.TheFolds.{ind-Node, map-Node}
-use Rattle.pdn_plan.specs.Shapes.{is_public, table_columns}
-use Rattle.pdn_plan.specs.Meaning.{Rows, mean, mean_step}
-use Rattle.pdn_plan.specs.Columns.{Wide, has, Has}
+use Rattle.pdn_tree.specs.declared.node.Node.{Node, Node-F, fold-roll-Node}
+use Rattle.pdn_tree.specs.declared.node.Node.TheFolds.{ind-Node, map-Node}
+use Rattle.pdn_tree.specs.Shapes.{is_public, table_columns}
+use Rattle.pdn_tree.specs.Meaning.{Rows, mean, mean_step}
+use Rattle.pdn_tree.specs.Columns.{Wide, has, Has}
 use Rattle.pdn_level.specs.declared.staged.Leaf.{Leaf}
 use Rattle.pdn_level.specs.Links.{slice_at, links, names_column, link_at}
 use Rattle.pdn_level.specs.Slices.{Followed, followed, followed_step, linked, among}

@@ -12,8 +12,8 @@ use Rattle.pdn_base.specs.Operators.{SameRows}
 use Rattle.pdn_base.proofs.BagLaws.{times-cons, times-hit, times-filter}
 use Rattle.pdn_base.proofs.RowLaws.{same_row-tests, value_cmp-ties, is_eq-tie}
 use Rattle.pdn_schema.specs.Models.{SchemaModel}
-use Rattle.pdn_plan.specs.declared.node.Node.{Node}
-use Rattle.pdn_plan.specs.Meaning.{Rows, mean, mean_step}
+use Rattle.pdn_tree.specs.declared.node.Node.{Node}
+use Rattle.pdn_tree.specs.Meaning.{Rows, mean, mean_step}
 use Rattle.pdn_level.specs.declared.staged.Leaf.{Leaf}
 use Rattle.pdn_level.specs.Links.{slice_at}
 use Rattle.pdn_level.specs.Slices.{slices}

@@ -1,8 +1,8 @@
 -- The segments of a tree by its level.
 use Rattle.std.proofs.Common.{◌≡◌, ℕ, List, [], ◌∷◌, ◌++◌, refl, ap, ◌∙◌}
 use Rattle.pdn_schema.specs.Models.{SchemaModel}
-use Rattle.pdn_plan.specs.declared.node.Node.{Node, Node-F, fold-roll-Node}
-use Rattle.pdn_plan.specs.declared.node.Node.TheFolds.{ind-Node, map-Node}
+use Rattle.pdn_tree.specs.declared.node.Node.{Node, Node-F, fold-roll-Node}
+use Rattle.pdn_tree.specs.declared.node.Node.TheFolds.{ind-Node, map-Node}
 use Rattle.pdn_level.specs.declared.staged.Level.{Level}
 use Rattle.pdn_level.specs.declared.staged.Level.TheVariants as level
 use Rattle.pdn_level.specs.Models.{SegmentModel}

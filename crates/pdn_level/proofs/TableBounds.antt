@@ -14,9 +14,9 @@ use Rattle.pdn_base.proofs.RowLaws.{value_cmp-ties, is_eq-tie}
 use Rattle.pdn_schema.specs.declared.schema.Column.{Column}
 use Rattle.pdn_schema.specs.Models.{TableModel, SchemaModel, no_table, table_of}
 use Rattle.pdn_schema.specs.Rows.{HasKinds, value_kind, standing, KeepEach, AreValid, union}
-use Rattle.pdn_plan.specs.Shapes.{is_public, columns_in, table_columns}
-use Rattle.pdn_plan.specs.Meaning.{Rows}
-use Rattle.pdn_plan.specs.Columns.{Wide}
+use Rattle.pdn_tree.specs.Shapes.{is_public, columns_in, table_columns}
+use Rattle.pdn_tree.specs.Meaning.{Rows}
+use Rattle.pdn_tree.specs.Columns.{Wide}
 use Rattle.pdn_level.specs.declared.staged.Leaf.{Leaf}
 use Rattle.pdn_level.specs.Links.{slice_at}
 use Rattle.pdn_level.specs.Cutting.{same_value, at, AreWide, IsPublicLeaf}

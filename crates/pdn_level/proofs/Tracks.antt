@@ -1,8 +1,8 @@
 -- Following a slice column: whatever is made of the tree, its slice columns are the same.
 use Rattle.std.proofs.Common.{◌≡◌, ℕ, List, Bool, refl, ap, ap₂, subst}
 use Rattle.pdn_schema.specs.Models.{SchemaModel}
-use Rattle.pdn_plan.specs.declared.node.Node.{Node, Node-F, fold-roll-Node}
-use Rattle.pdn_plan.specs.declared.node.Node.TheFolds.{ind-Node, map-Node}
+use Rattle.pdn_tree.specs.declared.node.Node.{Node, Node-F, fold-roll-Node}
+use Rattle.pdn_tree.specs.declared.node.Node.TheFolds.{ind-Node, map-Node}
 use Rattle.pdn_level.specs.declared.staged.Leaf.{Leaf}
 use Rattle.pdn_level.specs.Slices.{slice_step, slices, Followed, followed_step, followed, linked}
 use Rattle.pdn_level.specs.Levels.{Survey, survey_step, survey, leaf_of, leaves_step}

@@ -6,8 +6,8 @@ use Rattle.pdn_base.specs.declared.value.Value.{Value}
 use Rattle.pdn_base.proofs.BagLaws.{SameBag-length}
 use Rattle.pdn_base.proofs.RowLaws.{same_row-tests}
 use Rattle.pdn_schema.specs.Models.{SchemaModel}
-use Rattle.pdn_plan.specs.declared.node.Node.{Node}
-use Rattle.pdn_plan.specs.Meaning.{Rows, mean}
+use Rattle.pdn_tree.specs.declared.node.Node.{Node}
+use Rattle.pdn_tree.specs.Meaning.{Rows, mean}
 use Rattle.pdn_level.specs.declared.staged.Leaf.{Leaf}
 use Rattle.pdn_level.specs.Links.{slice_at}
 use Rattle.pdn_level.specs.Slices.{Followed, slices}

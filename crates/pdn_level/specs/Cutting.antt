@@ -6,11 +6,11 @@ use Rattle.pdn_base.specs.declared.value.Value.{Value}
 use Rattle.pdn_base.specs.Values.{value_cmp, cell}
 use Rattle.pdn_base.specs.Operators.{SameRows}
 use Rattle.pdn_schema.specs.Models.{SchemaModel}
-use Rattle.pdn_plan.specs.declared.node.Node.{Node, out-Node}
-use Rattle.pdn_plan.specs.declared.node.Node.TheOpen.{Node-F}
-use Rattle.pdn_plan.specs.Shapes.{is_public, table_columns}
-use Rattle.pdn_plan.specs.Meaning.{Rows, mean, mean_step}
-use Rattle.pdn_plan.specs.Columns.{Wide}
+use Rattle.pdn_tree.specs.declared.node.Node.{Node, out-Node}
+use Rattle.pdn_tree.specs.declared.node.Node.TheOpen.{Node-F}
+use Rattle.pdn_tree.specs.Shapes.{is_public, table_columns}
+use Rattle.pdn_tree.specs.Meaning.{Rows, mean, mean_step}
+use Rattle.pdn_tree.specs.Columns.{Wide}
 use Rattle.pdn_level.specs.declared.staged.Level.TheVariants as level
 use Rattle.pdn_level.specs.declared.staged.Leaf.{Leaf}
 use Rattle.pdn_level.specs.Models.{SegmentModel}

@@ -2,8 +2,8 @@
 use Rattle.std.specs.Prelude.{ℕ, ◌&&◌, ◌||◌, not, Bool, true, false, cond, List, [], ◌∷◌, ◌++◌, suc}
 use Rattle.std.specs.List.{list_any}
 use Rattle.pdn_schema.specs.Models.{SchemaModel}
-use Rattle.pdn_plan.specs.declared.node.Node.{Node, fold-Node}
-use Rattle.pdn_plan.specs.declared.node.Node.TheOpen.{Node-F}
+use Rattle.pdn_tree.specs.declared.node.Node.{Node, fold-Node}
+use Rattle.pdn_tree.specs.declared.node.Node.TheOpen.{Node-F}
 use Rattle.pdn_level.specs.Slices.{Followed, followed_step}
 use Rattle.pdn_level.specs.declared.staged.Level.{Level}
 use Rattle.pdn_level.specs.declared.staged.Level.TheVariants as level

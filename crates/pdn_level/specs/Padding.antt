@@ -4,10 +4,10 @@ use Rattle.std.specs.List.{list_all, range_with_len, slice_get}
 use Rattle.pdn_base.specs.declared.value.Value.{Value}
 use Rattle.pdn_schema.specs.declared.schema.Column.{Column}
 use Rattle.pdn_schema.specs.Models.{TableModel, SchemaModel}
-use Rattle.pdn_plan.specs.declared.node.Node.{Node, fold-Node}
-use Rattle.pdn_plan.specs.declared.node.Node.TheOpen.{Node-F}
-use Rattle.pdn_plan.specs.Shapes.{table_columns}
-use Rattle.pdn_plan.specs.Meaning.{Rows, mean}
+use Rattle.pdn_tree.specs.declared.node.Node.{Node, fold-Node}
+use Rattle.pdn_tree.specs.declared.node.Node.TheOpen.{Node-F}
+use Rattle.pdn_tree.specs.Shapes.{table_columns}
+use Rattle.pdn_tree.specs.Meaning.{Rows, mean}
 use Rattle.pdn_level.specs.declared.staged.Leaf.{Leaf}
 use Rattle.pdn_level.specs.declared.staged.Level.{Level}
 use Rattle.pdn_level.specs.declared.staged.Level.TheVariants as level

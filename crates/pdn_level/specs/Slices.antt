@@ -3,10 +3,10 @@ use Rattle.std.specs.Prelude.{ℕ, ◌+◌, ◌&&◌, Bool, false, List, [], ◌
 use Rattle.std.specs.List.{list_any, range_with_len}
 use Rattle.pdn_base.specs.declared.cond.Cmp.{Cmp}
 use Rattle.pdn_schema.specs.Models.{SchemaModel}
-use Rattle.pdn_plan.specs.declared.node.Node.{Node, fold-Node}
-use Rattle.pdn_plan.specs.declared.node.Node.TheOpen.{Node-F}
-use Rattle.pdn_plan.specs.Shapes.{is_public, table_columns}
-use Rattle.pdn_plan.specs.Columns.{has}
+use Rattle.pdn_tree.specs.declared.node.Node.{Node, fold-Node}
+use Rattle.pdn_tree.specs.declared.node.Node.TheOpen.{Node-F}
+use Rattle.pdn_tree.specs.Shapes.{is_public, table_columns}
+use Rattle.pdn_tree.specs.Columns.{has}
 use Rattle.pdn_level.specs.Links.{slice_at, links, link_at, names_column}
 
 -- the columns of the joined row that some clause links

@@ -4,15 +4,15 @@ ghost use Rattle.std.specs.Prelude.{◌≡◌, ◌≤◌, ℕ, List, [], true, l
 ghost use Rattle.std.specs.List.{AllByRecursion};
 ghost use Rattle.pdn_base.specs.declared.value.Value.{Value};
 ghost use Rattle.pdn_schema.specs.Rows.{AreValid, union};
-ghost use Rattle.pdn_plan.specs.Meaning.{Rows, mean, table_of};
+ghost use Rattle.pdn_tree.specs.Meaning.{Rows, mean, table_of};
 ghost use Rattle.pdn_level.specs.Links.{slice_at};
 ghost use Rattle.pdn_level.specs.Slices.{slices};
 ghost use Rattle.pdn_level.specs.Levels.{leaves_of};
 ghost use Rattle.pdn_level.specs.Cutting.{AreWide, HaveEach, mean_at, slice_column};
 ghost use Rattle.pdn_level.specs.Padding.{IsFew, padding, SegmentsFit, root_room};
 
-use pdn_plan::Node;
 use pdn_schema::Schema;
+use pdn_tree::Node;
 
 /// Over valid tables of both sites every table's rows in the union are as wide as the schema says, which is all that the law
 /// of slices asks of them.

@@ -2,15 +2,15 @@
 
 ghost use Rattle.std.specs.Prelude.{◌≡◌, IfOk, map, ◌++◌, ◌&&◌, ◌==◌, ◌∷◌, [], false};
 ghost use Rattle.std.specs.List.{list_any};
-ghost use Rattle.pdn_plan.specs.Shapes.{is_public, table_columns};
-ghost use Rattle.pdn_plan.specs.Columns.{has};
+ghost use Rattle.pdn_tree.specs.Shapes.{is_public, table_columns};
+ghost use Rattle.pdn_tree.specs.Columns.{has};
 ghost use Rattle.pdn_level.specs.Links.{slice_at, names_column};
 ghost use Rattle.pdn_level.specs.Slices.{linked, among};
 
 use crate::links::{is_linked, links, slice_at};
 use pdn_base::{Cond, Label, Memory};
-use pdn_plan::Node;
 use pdn_schema::{Column, Schema};
+use pdn_tree::Node;
 use std::alloc::Global;
 
 fn is_public(label: Label) -> bool

@@ -9,8 +9,8 @@ use crate::links::{link_at, links};
 use crate::slices::{linked, no_slices, partition_slices, scan_slices, slices_at, with_count};
 use crate::{Leaf, Level, Segment, Staged};
 use pdn_base::Memory;
-use pdn_plan::{Node, Plan};
 use pdn_schema::Schema;
+use pdn_tree::{Node, Plan};
 use std::alloc::Global;
 use std::marker::Model;
 

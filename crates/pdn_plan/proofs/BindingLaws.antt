@@ -6,20 +6,20 @@ use Rattle.pdn_schema.specs.Schemas.{IsSchema}
 use Rattle.pdn_sql.specs.declared.query.Item.{Item}
 use Rattle.pdn_sql.specs.declared.query.Block.{Block}
 use Rattle.pdn_sql.specs.declared.query.Query.{Query}
-use Rattle.pdn_plan.specs.declared.node.Node.{Node, Node-F, out-roll-Node}
-use Rattle.pdn_plan.specs.declared.node.Node.TheVariants.{rolls-Top}
-use Rattle.pdn_plan.specs.declared.node.Node.TheVariants as node
-use Rattle.pdn_plan.specs.declared.plan.PlanErr.{PlanErr}
-use Rattle.pdn_plan.specs.declared.plan.PlanErr.TheVariants as err
-use Rattle.pdn_plan.specs.declared.plan.OutColumn.{OutColumn}
+use Rattle.pdn_tree.specs.declared.node.Node.{Node, Node-F, out-roll-Node}
+use Rattle.pdn_tree.specs.declared.node.Node.TheVariants.{rolls-Top}
+use Rattle.pdn_tree.specs.declared.node.Node.TheVariants as node
+use Rattle.pdn_plan.specs.declared.plan_err.PlanErr.{PlanErr}
+use Rattle.pdn_plan.specs.declared.plan_err.PlanErr.TheVariants as err
+use Rattle.pdn_tree.specs.declared.plan.OutColumn.{OutColumn}
 use Rattle.pdn_plan.specs.declared.scope.Refusal.{Refusal}
 use Rattle.pdn_plan.specs.declared.scope.Seen.{Seen}
 use Rattle.pdn_plan.specs.declared.scope.Earlier.{Earlier}
 use Rattle.pdn_base.specs.declared.order.Key.{Key}
-use Rattle.pdn_plan.specs.Shapes.{nodes, tops, labels, is_top, is_top_layer, is_public, fits}
+use Rattle.pdn_tree.specs.Shapes.{nodes, tops, labels, is_top, is_top_layer, is_public, fits}
 use Rattle.pdn_plan.specs.Steps.{output_name, order_keys}
 use Rattle.pdn_plan.specs.Names.{or_else, refuse_if}
-use Rattle.pdn_plan.specs.Plans.{PlanModel, forbidden}
+use Rattle.pdn_tree.specs.Plans.{PlanModel, forbidden}
 use Rattle.pdn_plan.specs.Planning.{scope_of, bound_with, root, main_relation, out_columns, columns}
 use Rattle.pdn_plan.specs.Binding.{main_refusal, refusal, plan, Refuses, BindGives}
 use Rattle.pdn_plan.specs.Keeping.{all_kept, with_refusals, main_tree, main_refusals, Tells, Forbids}

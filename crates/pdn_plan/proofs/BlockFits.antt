@@ -12,22 +12,22 @@ use Rattle.pdn_sql.specs.declared.query.What.{What}
 use Rattle.pdn_sql.specs.declared.query.What.TheVariants as what
 use Rattle.pdn_sql.specs.declared.query.Item.{Item}
 use Rattle.pdn_sql.specs.declared.query.Block.{Block}
-use Rattle.pdn_plan.specs.declared.node.Node.{Node}
-use Rattle.pdn_plan.specs.Columns.{has, Has, Below, place_in}
+use Rattle.pdn_tree.specs.declared.node.Node.{Node}
+use Rattle.pdn_tree.specs.Columns.{has, Has, Below, place_in}
 use Rattle.pdn_plan.specs.Names.{first_of, refuse_if, place, scope_kinds}
 use Rattle.pdn_plan.specs.Steps.{firsts, is_number, counts, key_at, window_key, number_or, window_step, count_or, group_or, step_of, what_columns, items_columns, what_at, items_at, output_name}
 use Rattle.pdn_plan.specs.declared.steps.Step.{Step}
 use Rattle.pdn_plan.specs.declared.steps.Step.TheVariants.{Grouped, Counted, Numbered, Unchanged}
 use Rattle.pdn_plan.specs.Planning.{scope_of, bounds, kept, chosen_node, step_node, step_columns, step_width, block_items, block_node, block_relation, cut_to, what_kind}
 use Rattle.pdn_plan.specs.Binding.{sources_refusal, is_loose, is_some_of, is_grouped, loose_refusal, is_counted, joins_below, is_wide, after_sources, block_refusal}
-use Rattle.pdn_plan.specs.Shapes.{has_join, kind_at, all_within, key_columns}
+use Rattle.pdn_tree.specs.Shapes.{has_join, kind_at, all_within, key_columns}
 use Rattle.pdn_plan.specs.Answer.{StartsPlain}
 use Rattle.pdn_plan.proofs.Pushing.{map-map}
 use Rattle.pdn_plan.proofs.Stepping.{AllColumns, IsColumn, shows-columns}
 use Rattle.pdn_plan.proofs.Looking.{or_none, cols-within, items-within}
 use Rattle.pdn_plan.proofs.OneBlock.{all-parts, keys-known, not-grouped, or_right, not-both}
 use Rattle.pdn_plan.proofs.Central.{Passed, passed, named-in, in-kept}
-use Rattle.pdn_plan.proofs.ShapeLaws.{Gives, gives-Group, gives-Count, gives-Number}
+use Rattle.pdn_tree.proofs.ShapeLaws.{Gives, gives-Group, gives-Count, gives-Number}
 use Rattle.pdn_plan.proofs.KindLaws.{kinds_of, kind-left, kind-right, all-within, kept-below, kept-kind, kept-kinds, kept-within}
 use Rattle.pdn_plan.proofs.CondFits.{no-cause, both_false, not_false}
 use Rattle.pdn_plan.proofs.TreeFits.{gives-cut, gives-distinct}

@@ -5,15 +5,15 @@ use Rattle.std.proofs.lemmas.List.{length-map}
 use Rattle.pdn_schema.specs.declared.schema.Column.{Column}
 use Rattle.pdn_schema.specs.Models.{TableModel, SchemaModel}
 use Rattle.pdn_sql.specs.declared.query.Source.{Source}
-use Rattle.pdn_plan.specs.declared.node.Node.TheVariants as node
-use Rattle.pdn_plan.specs.Meaning.{Rows, mean}
-use Rattle.pdn_plan.specs.Columns.{Wide}
+use Rattle.pdn_tree.specs.declared.node.Node.TheVariants as node
+use Rattle.pdn_tree.specs.Meaning.{Rows, mean}
+use Rattle.pdn_tree.specs.Columns.{Wide}
 use Rattle.pdn_plan.specs.Names.{refuse_if}
 use Rattle.pdn_plan.specs.Steps.{alias_or}
 use Rattle.pdn_plan.specs.Planning.{table_from, given_column, earlier_or, relation, columns_of, plan_of, source_name, seen_as, seen_by}
 use Rattle.pdn_plan.specs.Answer.{NamedRows, Known, table_rows, known_or, stands_for, titled, standing, TablesFit}
 use Rattle.pdn_plan.proofs.Pushing.{map-map}
-use Rattle.pdn_plan.proofs.NodeLaws.{mean-Scan}
+use Rattle.pdn_tree.proofs.NodeLaws.{mean-Scan}
 use Rattle.pdn_plan.proofs.Looking.{title_of}
 use Rattle.pdn_plan.specs.declared.scope.Given.{Given}
 use Rattle.pdn_plan.specs.declared.scope.Relation.{Relation}

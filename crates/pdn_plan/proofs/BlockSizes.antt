@@ -2,12 +2,12 @@
 use Rattle.std.proofs.Common.{◌≡◌, ◌≤◌, ◌<◌, ◌+◌, ℕ, suc, List, [], ◌∷◌, ◌++◌, ap, ap₂, ◌∙◌, sym, refl, Bool, true, false, ◌||◌, nat_lt, length, arith, ltb-true, lt-ltb}
 use Rattle.std.specs.List.{list_any, AllByRecursion}
 use Rattle.pdn_sql.specs.declared.query.Block.{Block}
-use Rattle.pdn_plan.specs.declared.node.Node.{Node}
-use Rattle.pdn_plan.specs.declared.node.Node.TheVariants as node
+use Rattle.pdn_tree.specs.declared.node.Node.{Node}
+use Rattle.pdn_tree.specs.declared.node.Node.TheVariants as node
 use Rattle.pdn_plan.specs.declared.scope.Bound.{Bound}
 use Rattle.pdn_plan.specs.declared.scope.Seen.{Seen}
-use Rattle.pdn_plan.specs.Columns.{Clauses, clauses_at, place_in, shifted, has}
-use Rattle.pdn_plan.specs.Shapes.{nodes, has_join, tops}
+use Rattle.pdn_tree.specs.Columns.{Clauses, clauses_at, place_in, shifted, has}
+use Rattle.pdn_tree.specs.Shapes.{nodes, has_join, tops}
 use Rattle.pdn_plan.specs.Splitting.{Part, split, left_by, local_to, kept_of}
 use Rattle.pdn_plan.specs.Steps.{step_of}
 use Rattle.pdn_plan.specs.Names.{place, placed}

@@ -2,9 +2,9 @@
 use Rattle.std.specs.Prelude.{ℕ, ◌+◌, List, [], ◌∷◌, ◌++◌}
 use Rattle.pdn_base.specs.Bags.{pairs}
 use Rattle.pdn_base.specs.Operators.{filter_rows, project_rows, join_rows, joined}
-use Rattle.pdn_plan.specs.declared.node.Node.{Node}
-use Rattle.pdn_plan.specs.Meaning.{Rows}
-use Rattle.pdn_plan.specs.Columns.{Clauses, clauses_at, place_in, shifted}
+use Rattle.pdn_tree.specs.declared.node.Node.{Node}
+use Rattle.pdn_tree.specs.Meaning.{Rows}
+use Rattle.pdn_tree.specs.Columns.{Clauses, clauses_at, place_in, shifted}
 use Rattle.pdn_plan.specs.Splitting.{Part}
 
 -- all sources, side by side

@@ -4,12 +4,12 @@ use Rattle.std.specs.List.{list_any, range_with_len}
 use Rattle.std.proofs.lemmas.Bool.{true≢false}
 use Rattle.std.proofs.lemmas.List.{length-map}
 use Rattle.pdn_sql.specs.declared.query.Block.{Block}
-use Rattle.pdn_plan.specs.declared.node.Node.{Node}
-use Rattle.pdn_plan.specs.declared.node.Node.TheVariants as node
+use Rattle.pdn_tree.specs.declared.node.Node.{Node}
+use Rattle.pdn_tree.specs.declared.node.Node.TheVariants as node
 use Rattle.pdn_plan.specs.declared.scope.Bound.{Bound}
 use Rattle.pdn_plan.specs.declared.scope.Seen.{Seen}
-use Rattle.pdn_plan.specs.Columns.{Clauses, has}
-use Rattle.pdn_plan.specs.Shapes.{nodes, has_join}
+use Rattle.pdn_tree.specs.Columns.{Clauses, has}
+use Rattle.pdn_tree.specs.Shapes.{nodes, has_join}
 use Rattle.pdn_plan.specs.Splitting.{left_over, left_by, clauses_columns, ons}
 use Rattle.pdn_plan.specs.Steps.{step_of, items_columns}
 use Rattle.pdn_plan.specs.Names.{first_of, or_else, refuse_if, place, placed, cond_refusal, col_refusal}

@@ -9,8 +9,8 @@ use Rattle.pdn_sql.specs.declared.query.Col.{Col}
 use Rattle.pdn_sql.specs.declared.query.Block.{Block}
 use Rattle.pdn_sql.specs.declared.query.Named.{Named}
 use Rattle.pdn_sql.specs.declared.query.Query.{Query}
-use Rattle.pdn_plan.specs.Meaning.{Rows, mean}
-use Rattle.pdn_plan.specs.Columns.{Clauses, Names, Wide, has, Has, place_in, clauses_at}
+use Rattle.pdn_tree.specs.Meaning.{Rows, mean}
+use Rattle.pdn_tree.specs.Columns.{Clauses, Names, Wide, has, Has, place_in, clauses_at}
 use Rattle.pdn_plan.specs.Splitting.{split, ons, left_over, left_by, clauses_columns, clause_passes, is_of}
 use Rattle.pdn_plan.specs.Names.{or_else, first_of, refuse_if, cond_refusal, col_refusal, placed, place}
 use Rattle.pdn_plan.specs.Steps.{step_of, items_columns, output_name, order_keys, counts}
@@ -21,10 +21,10 @@ use Rattle.pdn_plan.specs.Binding.{sources_refusal, items_refusal, loose_refusal
 use Rattle.pdn_plan.specs.Answer.{Title, Known, NamedRows, Standing, standing, all_titles, title_place, ons_true, all_true, chosen_rows, numbered_columns, stepped, once_if, block_rows, block_means, with_means, answer, TablesFit, StartsPlain, IsWritten}
 use Rattle.pdn_plan.specs.Answer as answers
 use Rattle.pdn_plan.proofs.Blocks as plans
-use Rattle.pdn_plan.proofs.ColumnLaws.{meets-append}
+use Rattle.pdn_tree.proofs.ColumnLaws.{meets-append}
 use Rattle.pdn_plan.proofs.Pushing.{filter-agree, map-map}
 use Rattle.pdn_plan.proofs.KeepLaws.{needed_below, has_needed, AllSound}
-use Rattle.pdn_plan.proofs.NodeLaws.{mean-Top}
+use Rattle.pdn_tree.proofs.NodeLaws.{mean-Top}
 use Rattle.pdn_plan.proofs.Chosen.{start, width_of, Wanted, chosen-means}
 use Rattle.pdn_plan.proofs.Stepping.{distinct-means, shows-columns}
 use Rattle.pdn_plan.proofs.Looking.{or_none, title_of, title-place, placed-true, cond-within, cols-within, items-within}

@@ -8,18 +8,18 @@ use Rattle.pdn_base.specs.Values.{cut}
 use Rattle.pdn_base.specs.Conditions.{meets}
 use Rattle.pdn_base.specs.Operators.{filter_rows, project_rows, join_rows, joined}
 use Rattle.pdn_base.proofs.Perms.{Perm}
-use Rattle.pdn_plan.specs.declared.node.Node.{Node}
-use Rattle.pdn_plan.specs.declared.node.Node.TheVariants as node
-use Rattle.pdn_plan.specs.Meaning.{Rows, mean}
-use Rattle.pdn_plan.specs.Columns.{Clauses, clauses_at, place_in, shifted, Names, Has, Wide}
+use Rattle.pdn_tree.specs.declared.node.Node.{Node}
+use Rattle.pdn_tree.specs.declared.node.Node.TheVariants as node
+use Rattle.pdn_tree.specs.Meaning.{Rows, mean}
+use Rattle.pdn_tree.specs.Columns.{Clauses, clauses_at, place_in, shifted, Names, Has, Wide}
 use Rattle.pdn_plan.specs.Splitting.{Part, left_by, split, left_over, ons}
 use Rattle.pdn_plan.specs.Planning.{filtered, cut_to, part_node, joins_node, sources_node}
 use Rattle.pdn_plan.proofs.Blocks.{product, clauses_so_far, kept_so_far, planned, joins}
-use Rattle.pdn_plan.proofs.ColumnLaws.{names-weaker, meets-at, cell-cut}
+use Rattle.pdn_tree.proofs.ColumnLaws.{names-weaker, meets-at, cell-cut}
 use Rattle.pdn_plan.proofs.Pushing.{filter-all, filter-map, filter-agree, filter_both, meets-perm, pushed, AllFit}
 use Rattle.pdn_plan.proofs.SplitLaws.{split_asks}
 use Rattle.pdn_plan.proofs.KeepLaws.{needed_below, keep_more, has_needed, AllSound, split_fits}
-use Rattle.pdn_plan.proofs.NodeLaws.{mean-Filter, mean-Project, mean-Join}
+use Rattle.pdn_tree.proofs.NodeLaws.{mean-Filter, mean-Project, mean-Join}
 use Rattle.pdn_plan.proofs.WidthLaws.{wide-filter, project-all}
 use Rattle.pdn_plan.specs.declared.scope.Bound.{Bound}
 

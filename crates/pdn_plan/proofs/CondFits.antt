@@ -11,7 +11,7 @@ use Rattle.pdn_sql.specs.declared.query.SqlOperand.TheVariants as written
 use Rattle.pdn_sql.specs.declared.query.SqlCmp.{SqlCmp}
 use Rattle.pdn_sql.specs.declared.query.SqlClause.{SqlClause}
 use Rattle.pdn_plan.specs.Names.{or_else, first_of, refuse_if, col_text, col_refusal, place, scope_kinds, col_kind, sums_code, operand_refusal, operand_kind, operand_sums_code, clashes, cmp_refusal, clause_refusal, cond_refusal, placed_term, placed_operand, placed_cmp, placed}
-use Rattle.pdn_plan.specs.Shapes.{same_kind, term_fits, operand_fits, cmp_fits, cond_fits}
+use Rattle.pdn_tree.specs.Shapes.{same_kind, term_fits, operand_fits, cmp_fits, cond_fits}
 use Rattle.pdn_plan.proofs.Looking.{or_none, place-within}
 use Rattle.pdn_plan.specs.declared.scope.Seen.{Seen}
 

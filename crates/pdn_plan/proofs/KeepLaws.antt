@@ -3,14 +3,14 @@ use Rattle.std.proofs.Common.{◌≡◌, ℕ, suc, zero, ◌+◌, ◌-◌, ◌<�
 use Rattle.std.specs.List.{list_any, AllByRecursion, range_with_len}
 use Rattle.std.proofs.lemmas.Bool.{cases_eq}
 use Rattle.std.proofs.lemmas.List.Elements.{filter-append}
-use Rattle.pdn_plan.specs.Columns.{Clauses, Names, Has, shifted, Below, Wide}
+use Rattle.pdn_tree.specs.Columns.{Clauses, Names, Has, shifted, Below, Wide}
 use Rattle.pdn_plan.specs.Splitting.{Part}
-use Rattle.pdn_plan.specs.declared.node.Node.{Node}
+use Rattle.pdn_tree.specs.declared.node.Node.{Node}
 use Rattle.pdn_plan.specs.Splitting.{kept_of, clause_passes, is_of, local_to, left_by, split}
-use Rattle.pdn_plan.proofs.ColumnLaws.{names-weaker, names-at}
+use Rattle.pdn_tree.proofs.ColumnLaws.{names-weaker, names-at}
 use Rattle.pdn_plan.proofs.Pushing.{filter-map, Fits, AllFit}
 use Rattle.pdn_plan.proofs.SplitLaws.{both_true, passing_known}
-use Rattle.pdn_plan.specs.Meaning.{Rows}
+use Rattle.pdn_tree.specs.Meaning.{Rows}
 use Rattle.pdn_plan.specs.declared.scope.Bound.{Bound}
 
 pub range-shift : (w a v : ℕ) → map (λ c. w + c) (range_with_len a v) ≡ range_with_len (w + a) v

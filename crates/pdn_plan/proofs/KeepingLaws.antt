@@ -7,15 +7,15 @@ use Rattle.pdn_schema.specs.Names.{is_among}
 use Rattle.pdn_sql.specs.declared.query.Source.{Source}
 use Rattle.pdn_sql.specs.declared.query.Block.{Block}
 use Rattle.pdn_sql.specs.declared.query.Named.{Named}
-use Rattle.pdn_plan.specs.declared.node.Node.{Node}
-use Rattle.pdn_plan.specs.declared.node.Node.TheVariants as node
+use Rattle.pdn_tree.specs.declared.node.Node.{Node}
+use Rattle.pdn_tree.specs.declared.node.Node.TheVariants as node
 use Rattle.pdn_plan.specs.declared.scope.Bound.{Bound}
 use Rattle.pdn_plan.specs.declared.scope.Given.{Given}
 use Rattle.pdn_plan.specs.declared.scope.Refusal.{Refusal}
 use Rattle.pdn_plan.specs.declared.scope.Relation.{Relation}
 use Rattle.pdn_plan.specs.declared.scope.Seen.{Seen}
 use Rattle.pdn_plan.specs.declared.scope.Earlier.{Earlier}
-use Rattle.pdn_plan.specs.Columns.{Clauses}
+use Rattle.pdn_tree.specs.Columns.{Clauses}
 use Rattle.pdn_plan.specs.Steps.{output_name}
 use Rattle.pdn_plan.specs.Names.{or_else, refuse_if, cond_refusal, placed, first_of}
 use Rattle.pdn_plan.specs.Planning.{given_column, table_from, earlier_or, relation, columns_of, plan_of, source_name, seen_as, seen_by, scope_of, bounds, block_node, block_gives, block_relation, bound_with}

@@ -8,8 +8,8 @@ use Rattle.pdn_base.specs.declared.cond.Term.{Term}
 use Rattle.pdn_base.specs.declared.cond.Operand.{Operand}
 use Rattle.pdn_base.specs.declared.cond.Operand.TheVariants as operand
 use Rattle.pdn_base.specs.declared.cond.Cmp.{Cmp}
-use Rattle.pdn_plan.specs.Columns.{Clauses, term_at, operand_at, cmp_at, clauses_at, OperandNames, CmpNames, Names, place_in, Has, shifted, Below}
-use Rattle.pdn_plan.specs.Shapes.{kind_at, same_kind, all_within, term_fits, operand_fits, cmp_fits, cond_fits}
+use Rattle.pdn_tree.specs.Columns.{Clauses, term_at, operand_at, cmp_at, clauses_at, OperandNames, CmpNames, Names, place_in, Has, shifted, Below}
+use Rattle.pdn_tree.specs.Shapes.{kind_at, same_kind, all_within, term_fits, operand_fits, cmp_fits, cond_fits}
 use Rattle.pdn_plan.proofs.Pushing.{map-map, map-agree}
 use Rattle.pdn_plan.proofs.KeepLaws.{range-shift}
 use Rattle.pdn_plan.proofs.SplitLaws.{both_true}

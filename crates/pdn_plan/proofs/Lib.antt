@@ -1,9 +1,7 @@
 mod Blocks
-mod ColumnLaws
 mod Pushing
 mod SplitLaws
 mod KeepLaws
-mod NodeLaws
 mod WidthLaws
 mod Chosen
 mod Stepping
@@ -21,7 +19,6 @@ mod KeepingLaws
 mod WholeLaws
 mod BindingLaws
 mod RefusalLaws
-mod ShapeLaws
 mod KindLaws
 mod CondFits
 mod TreeFits

@@ -14,7 +14,7 @@ use Rattle.pdn_sql.specs.declared.query.SqlClause.{SqlClause}
 use Rattle.pdn_sql.specs.declared.query.What.{What}
 use Rattle.pdn_sql.specs.declared.query.What.TheVariants as what
 use Rattle.pdn_sql.specs.declared.query.Item.{Item}
-use Rattle.pdn_plan.specs.Columns.{Names, OperandNames, CmpNames}
+use Rattle.pdn_tree.specs.Columns.{Names, OperandNames, CmpNames}
 use Rattle.pdn_plan.specs.Names.{or_else, first_of, refuse_if, by_count, col_fits, col_text, col_refusal, place, operand_refusal, cmp_refusal, clause_refusal, cond_refusal, clashes, placed_operand, placed_cmp, placed}
 use Rattle.pdn_plan.specs.Steps.{what_columns, items_columns}
 use Rattle.pdn_plan.specs.Binding.{what_refusal, items_refusal}

@@ -15,9 +15,9 @@ use Rattle.pdn_sql.specs.declared.query.What.TheVariants as what
 use Rattle.pdn_sql.specs.declared.query.Item.{Item}
 use Rattle.pdn_sql.specs.declared.query.Source.{Source}
 use Rattle.pdn_sql.specs.declared.query.Block.{Block}
-use Rattle.pdn_plan.specs.declared.node.Node.{Node}
-use Rattle.pdn_plan.specs.Meaning.{Rows, mean}
-use Rattle.pdn_plan.specs.Columns.{Clauses, Names, CmpNames, OperandNames, Wide, has, Has, place_in}
+use Rattle.pdn_tree.specs.declared.node.Node.{Node}
+use Rattle.pdn_tree.specs.Meaning.{Rows, mean}
+use Rattle.pdn_tree.specs.Columns.{Clauses, Names, CmpNames, OperandNames, Wide, has, Has, place_in}
 use Rattle.pdn_plan.specs.Splitting.{ons, left_by, left_over, clauses_columns, clause_passes, operand_passes, is_of}
 use Rattle.pdn_plan.specs.Names.{refuse_if, placed, place}
 use Rattle.pdn_plan.specs.Steps.{key_at, items_at, is_number, counts, firsts, group_or, count_or, window_step, number_or}
@@ -26,8 +26,8 @@ use Rattle.pdn_plan.specs.declared.steps.Step.TheVariants.{Grouped, Counted, Num
 use Rattle.pdn_plan.specs.Planning.{seen_by, scope_of, bounds, kept, step_node, step_columns, step_width, cut_to}
 use Rattle.pdn_plan.specs.Binding.{joins_below}
 use Rattle.pdn_plan.specs.Answer.{numbered_columns, stepped, once_if, StartsPlain}
-use Rattle.pdn_plan.proofs.ColumnLaws.{names-weaker}
-use Rattle.pdn_plan.proofs.NodeLaws.{mean-Group, mean-Count, mean-Number}
+use Rattle.pdn_tree.proofs.ColumnLaws.{names-weaker}
+use Rattle.pdn_tree.proofs.NodeLaws.{mean-Group, mean-Count, mean-Number}
 use Rattle.pdn_plan.proofs.WidthLaws.{wide-project, wide-group, wide-number, wide-distinct}
 use Rattle.pdn_plan.proofs.Chosen.{cut-means}
 use Rattle.pdn_plan.proofs.Stepping.{AllColumns, group-cut, count-cut, items-project}

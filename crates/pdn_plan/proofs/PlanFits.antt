@@ -12,15 +12,15 @@ use Rattle.pdn_sql.specs.declared.query.OrderName.{OrderName}
 use Rattle.pdn_sql.specs.declared.query.Block.{Block}
 use Rattle.pdn_sql.specs.declared.query.Named.{Named}
 use Rattle.pdn_sql.specs.declared.query.Query.{Query}
-use Rattle.pdn_plan.specs.Columns.{has, Below}
+use Rattle.pdn_tree.specs.Columns.{has, Below}
 use Rattle.pdn_plan.specs.Names.{first_of, refuse_if}
 use Rattle.pdn_plan.specs.Steps.{firsts, name_place, order_key, order_keys, output_name}
 use Rattle.pdn_plan.specs.Planning.{block_relation, bound_with, main_relation, root}
 use Rattle.pdn_plan.specs.Binding.{block_refusal, with_refusal, order_refusal, main_refusal, blocks_refusal, refusal}
-use Rattle.pdn_plan.specs.Shapes.{Shape, key_columns, nodes, fits}
+use Rattle.pdn_tree.specs.Shapes.{Shape, key_columns, nodes, fits}
 use Rattle.pdn_plan.specs.Answer.{StartsPlain, IsWritten}
 use Rattle.pdn_plan.proofs.Looking.{or_none, once, all-append}
-use Rattle.pdn_plan.proofs.ShapeLaws.{Gives, gives-Top}
+use Rattle.pdn_tree.proofs.ShapeLaws.{Gives, gives-Top}
 use Rattle.pdn_plan.proofs.KindLaws.{all-within}
 use Rattle.pdn_plan.proofs.CondFits.{no-cause}
 use Rattle.pdn_plan.proofs.SourceFits.{RelationFits, EarlierFit}

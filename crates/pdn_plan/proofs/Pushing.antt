@@ -11,12 +11,12 @@ use Rattle.pdn_base.proofs.Perms.{Perm}
 use Rattle.pdn_base.proofs.Perms.Perm.{none, more, exchange, then}
 use Rattle.pdn_base.specs.Bags.{pairs}
 use Rattle.pdn_base.specs.Operators.{filter_rows, project_rows, join_rows, joined}
-use Rattle.pdn_plan.specs.Meaning.{Rows}
-use Rattle.pdn_plan.specs.Columns.{Clauses, clauses_at, Names, place_in, Has, shifted, Below, Wide}
+use Rattle.pdn_tree.specs.Meaning.{Rows}
+use Rattle.pdn_tree.specs.Columns.{Clauses, clauses_at, Names, place_in, Has, shifted, Below, Wide}
 use Rattle.pdn_plan.specs.Splitting.{Part}
-use Rattle.pdn_plan.specs.declared.node.Node.{Node}
+use Rattle.pdn_tree.specs.declared.node.Node.{Node}
 use Rattle.pdn_plan.proofs.Blocks.{product, clauses_so_far, kept_so_far, planned, joins}
-use Rattle.pdn_plan.proofs.ColumnLaws.{meets-at, names-weaker, meets-append, cell-right, cut-joined, cell-cut, cut-cut, all_names, meets-left, names-append, names-at}
+use Rattle.pdn_tree.proofs.ColumnLaws.{meets-at, names-weaker, meets-append, cell-right, cut-joined, cell-cut, cut-cut, all_names, meets-left, names-append, names-at}
 use Rattle.pdn_base.specs.declared.cond.Cmp.{Cmp}
 
 -- filters, maps and pairs

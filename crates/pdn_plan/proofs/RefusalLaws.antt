@@ -10,9 +10,9 @@ use Rattle.pdn_plan.specs.declared.scope.Refusal.{Refusal}
 use Rattle.pdn_plan.specs.declared.scope.Relation.{Relation}
 use Rattle.pdn_plan.specs.declared.scope.Seen.{Seen}
 use Rattle.pdn_plan.specs.declared.scope.Earlier.{Earlier}
-use Rattle.pdn_plan.specs.declared.node.Node.{Node}
+use Rattle.pdn_tree.specs.declared.node.Node.{Node}
 use Rattle.pdn_plan.specs.declared.steps.Step.{Step}
-use Rattle.pdn_plan.specs.Columns.{place_in}
+use Rattle.pdn_tree.specs.Columns.{place_in}
 use Rattle.pdn_plan.specs.Steps.{step_of, items_at}
 use Rattle.pdn_plan.specs.Names.{or_else, refuse_if, cond_refusal, place}
 use Rattle.pdn_plan.specs.Planning.{relation, columns_of, source_name, seen_as, scope_of, bounds, bound_with, kept, step_node, step_columns, step_width, block_items, cut_to, chosen_node, distinct_if, block_node}

@@ -1,11 +1,11 @@
 -- Size, Joins and Tops of each node, by its children.
 use Rattle.std.proofs.Common.{◌≡◌, ◌≤◌, ◌+◌, ℕ, List, [], ◌∷◌, Option, ap, ◌∙◌, sym, refl, Bool, true, false, cond, arith}
 use Rattle.pdn_base.specs.declared.order.Key.{Key}
-use Rattle.pdn_plan.specs.declared.node.Node.{Node, Node-F, fold-roll-Node}
-use Rattle.pdn_plan.specs.declared.node.Node.TheVariants.{rolls-Scan, rolls-Filter, rolls-Project, rolls-Join, rolls-Group, rolls-Count, rolls-Distinct, rolls-Number, rolls-Top}
-use Rattle.pdn_plan.specs.declared.node.Node.TheVariants as node
-use Rattle.pdn_plan.specs.Columns.{Clauses}
-use Rattle.pdn_plan.specs.Shapes.{nodes, node_step, has_join, join_step, tops, top_step}
+use Rattle.pdn_tree.specs.declared.node.Node.{Node, Node-F, fold-roll-Node}
+use Rattle.pdn_tree.specs.declared.node.Node.TheVariants.{rolls-Scan, rolls-Filter, rolls-Project, rolls-Join, rolls-Group, rolls-Count, rolls-Distinct, rolls-Number, rolls-Top}
+use Rattle.pdn_tree.specs.declared.node.Node.TheVariants as node
+use Rattle.pdn_tree.specs.Columns.{Clauses}
+use Rattle.pdn_tree.specs.Shapes.{nodes, node_step, has_join, join_step, tops, top_step}
 use Rattle.pdn_plan.specs.declared.steps.Step.{Step}
 use Rattle.pdn_plan.specs.declared.steps.Step.TheVariants.{Grouped, Counted, Numbered, Unchanged}
 use Rattle.pdn_plan.specs.Planning.{filtered, cut_to, step_node, distinct_if}

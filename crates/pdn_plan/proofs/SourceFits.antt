@@ -10,16 +10,16 @@ use Rattle.pdn_schema.specs.Schemas.{IsTable, IsSchema}
 use Rattle.pdn_schema.specs.Names.{is_among}
 use Rattle.pdn_sql.specs.declared.query.Source.{Source}
 use Rattle.pdn_sql.specs.declared.query.Block.{Block}
-use Rattle.pdn_plan.specs.declared.node.Node.TheVariants as node
-use Rattle.pdn_plan.specs.Columns.{Clauses, clauses_at, Names, has, Has, Below, shifted, place_in}
+use Rattle.pdn_tree.specs.declared.node.Node.TheVariants as node
+use Rattle.pdn_tree.specs.Columns.{Clauses, clauses_at, Names, has, Has, Below, shifted, place_in}
 use Rattle.pdn_plan.specs.Splitting.{Part, split, ons, left_by, left_over, local_to, kept_of, clause_passes, is_of}
 use Rattle.pdn_plan.specs.Names.{or_else, refuse_if, cond_refusal, placed, scope_kinds}
 use Rattle.pdn_plan.specs.Planning.{table_from, given_column, earlier_or, relation, columns_of, plan_of, source_name, seen_as, seen_by, scope_of, bounds, sources_node, chosen_node, named, kept}
 use Rattle.pdn_plan.specs.Binding.{sources_refusal, joins_below}
-use Rattle.pdn_plan.specs.Shapes.{columns_in, has_join, kind_at, cond_fits}
+use Rattle.pdn_tree.specs.Shapes.{columns_in, has_join, kind_at, cond_fits}
 use Rattle.pdn_plan.specs.Answer.{StartsPlain}
 use Rattle.pdn_plan.proofs.Blocks.{kept_so_far}
-use Rattle.pdn_plan.proofs.ColumnLaws.{names-weaker}
+use Rattle.pdn_tree.proofs.ColumnLaws.{names-weaker}
 use Rattle.pdn_plan.proofs.Pushing.{map-map}
 use Rattle.pdn_plan.proofs.SplitLaws.{both_true, passing_known}
 use Rattle.pdn_plan.proofs.KeepLaws.{needed_below, keep_more, has_needed, below_range}
@@ -28,7 +28,7 @@ use Rattle.pdn_plan.proofs.Looking.{or_none, cond-within}
 use Rattle.pdn_plan.proofs.SourceLaws.{width-is, names-from, names-both, names-parts}
 use Rattle.pdn_plan.proofs.OneBlock.{or_none_of}
 use Rattle.pdn_plan.proofs.Central.{named-in, left_names}
-use Rattle.pdn_plan.proofs.ShapeLaws.{Gives, gives-Scan}
+use Rattle.pdn_tree.proofs.ShapeLaws.{Gives, gives-Scan}
 use Rattle.pdn_plan.proofs.KindLaws.{kinds_of, kind-left, kind-right, Carries, carries, cond-moved, cond-some}
 use Rattle.pdn_plan.proofs.CondFits.{cond-placed}
 use Rattle.pdn_plan.proofs.TreeFits.{PartsFit, sources-give, gives-filtered, cond-kept, join-filtered, join-part}

@@ -12,8 +12,8 @@ use Rattle.pdn_base.specs.Operators.{joined}
 use Rattle.pdn_schema.specs.Models.{SchemaModel}
 use Rattle.pdn_schema.specs.Names.{is_among}
 use Rattle.pdn_sql.specs.declared.query.Source.{Source}
-use Rattle.pdn_plan.specs.Meaning.{Rows, mean}
-use Rattle.pdn_plan.specs.Columns.{Clauses, Names, OperandNames, CmpNames}
+use Rattle.pdn_tree.specs.Meaning.{Rows, mean}
+use Rattle.pdn_tree.specs.Columns.{Clauses, Names, OperandNames, CmpNames}
 use Rattle.pdn_plan.specs.Splitting.{split, ons, left_by, clauses_columns, operand_columns, cmp_columns}
 use Rattle.pdn_plan.specs.Names.{or_else, refuse_if, cond_refusal, placed}
 use Rattle.pdn_plan.specs.Planning.{relation, plan_of, source_name, seen_by, scope_of, bounds}
@@ -21,7 +21,7 @@ use Rattle.pdn_plan.specs.Binding.{sources_refusal}
 use Rattle.pdn_plan.specs.Answer.{Title, Known, Standing, standing, all_titles, ons_true, TablesFit, StartsPlain}
 use Rattle.pdn_plan.specs.Answer as answer
 use Rattle.pdn_plan.proofs.Blocks as plans
-use Rattle.pdn_plan.proofs.ColumnLaws.{meets-append, names-weaker}
+use Rattle.pdn_tree.proofs.ColumnLaws.{meets-append, names-weaker}
 use Rattle.pdn_plan.proofs.KeepLaws.{AllSound}
 use Rattle.pdn_plan.proofs.Chosen.{NoFirstOn, width_of}
 use Rattle.pdn_plan.proofs.Looking.{or_none, title_of, placed-true, cond-within}

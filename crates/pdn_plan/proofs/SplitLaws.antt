@@ -6,8 +6,8 @@ use Rattle.pdn_base.specs.declared.cond.Operand.TheVariants as operand
 use Rattle.pdn_base.specs.declared.cond.Cmp.{Cmp}
 use Rattle.pdn_base.proofs.Perms.{Perm, Perm-refl, Perm-same, Perm-append_left, Perm-append_right, Perm-comm, Perm-middle}
 use Rattle.pdn_base.proofs.Perms.Perm.{none, more, then}
-use Rattle.pdn_plan.specs.Columns.{Clauses, operand_at, cmp_at, clauses_at, OperandNames, CmpNames, Names}
-use Rattle.pdn_plan.proofs.ColumnLaws.{names-weaker}
+use Rattle.pdn_tree.specs.Columns.{Clauses, operand_at, cmp_at, clauses_at, OperandNames, CmpNames, Names}
+use Rattle.pdn_tree.proofs.ColumnLaws.{names-weaker}
 use Rattle.pdn_plan.proofs.Blocks.{clauses_so_far}
 use Rattle.pdn_plan.specs.Splitting.{operand_passes, cmp_passes, clause_passes, is_of, local_to, left_by, split, left_over, ons}
 use Rattle.pdn_plan.specs.declared.scope.Bound.{Bound}

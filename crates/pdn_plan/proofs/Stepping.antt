@@ -15,17 +15,17 @@ use Rattle.std.proofs.lemmas.Bool.{true≢false}
 use Rattle.pdn_base.specs.Values.{same_row}
 use Rattle.pdn_base.specs.Bags.{times, distinct}
 use Rattle.pdn_base.specs.Operators.{counted, allows}
-use Rattle.pdn_plan.specs.declared.node.Node.{Node}
-use Rattle.pdn_plan.specs.Meaning.{Rows, mean}
-use Rattle.pdn_plan.specs.Columns.{place_in, Has}
+use Rattle.pdn_tree.specs.declared.node.Node.{Node}
+use Rattle.pdn_tree.specs.Meaning.{Rows, mean}
+use Rattle.pdn_tree.specs.Columns.{place_in, Has}
 use Rattle.pdn_plan.specs.Steps.{what_at, items_at, items_columns, what_columns, is_count, counts, count_or, window_step, number_or, step_of, group_or}
 use Rattle.pdn_plan.specs.declared.steps.Step.{Step}
 use Rattle.pdn_plan.specs.declared.steps.Step.TheVariants.{Grouped, Unchanged}
 use Rattle.pdn_plan.specs.Planning.{step_node, distinct_if}
 use Rattle.pdn_plan.specs.Answer.{once_if}
-use Rattle.pdn_plan.proofs.ColumnLaws.{cell-cut, cut-cut}
+use Rattle.pdn_tree.proofs.ColumnLaws.{cell-cut, cut-cut}
 use Rattle.pdn_plan.proofs.Pushing.{map-map, map-agree}
-use Rattle.pdn_plan.proofs.NodeLaws.{mean-Group, mean-Distinct}
+use Rattle.pdn_tree.proofs.NodeLaws.{mean-Group, mean-Distinct}
 
 -- rows cut twice
 pub project-project : (kept columns : List ℕ) (rows : Rows) → AllByRecursion (Has kept) columns → project_rows (map (place_in kept) columns) (project_rows kept rows) ≡ project_rows columns rows

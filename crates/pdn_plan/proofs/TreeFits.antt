@@ -6,17 +6,17 @@ use Rattle.std.specs.List.{range_with_len}
 use Rattle.std.proofs.lemmas.List.{length-map}
 use Rattle.pdn_base.specs.declared.marks.Kind.{Kind}
 use Rattle.pdn_schema.specs.Models.{SchemaModel}
-use Rattle.pdn_plan.specs.declared.node.Node.{Node}
-use Rattle.pdn_plan.specs.declared.node.Node.TheVariants as node
-use Rattle.pdn_plan.specs.Columns.{Clauses, clauses_at, place_in, shifted, Names, Has, Below}
+use Rattle.pdn_tree.specs.declared.node.Node.{Node}
+use Rattle.pdn_tree.specs.declared.node.Node.TheVariants as node
+use Rattle.pdn_tree.specs.Columns.{Clauses, clauses_at, place_in, shifted, Names, Has, Below}
 use Rattle.pdn_plan.specs.Splitting.{Part}
 use Rattle.pdn_plan.specs.Planning.{filtered, cut_to, part_node, joins_node, sources_node, distinct_if}
-use Rattle.pdn_plan.specs.Shapes.{has_join, kind_at, cond_fits}
+use Rattle.pdn_tree.specs.Shapes.{has_join, kind_at, cond_fits}
 use Rattle.pdn_plan.proofs.Blocks.{kept_so_far}
-use Rattle.pdn_plan.proofs.ColumnLaws.{names-weaker}
+use Rattle.pdn_tree.proofs.ColumnLaws.{names-weaker}
 use Rattle.pdn_plan.proofs.Pushing.{below-both}
 use Rattle.pdn_plan.proofs.Chosen.{shifted-zero}
-use Rattle.pdn_plan.proofs.ShapeLaws.{Gives, gives-Filter, gives-Project, gives-Join, gives-Distinct, join-Filter, join-Project}
+use Rattle.pdn_tree.proofs.ShapeLaws.{Gives, gives-Filter, gives-Project, gives-Join, gives-Distinct, join-Filter, join-Project}
 use Rattle.pdn_plan.proofs.KindLaws.{kinds_of, kinds-joined, kinds-all, all-within, kept-below, kept-kind, carries, cond-moved}
 
 -- ---- a Filter and a Project that may be left out

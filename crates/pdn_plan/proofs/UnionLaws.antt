@@ -7,8 +7,8 @@ use Rattle.pdn_base.specs.declared.value.Value.{Value}
 use Rattle.pdn_schema.specs.declared.schema.Column.{Column}
 use Rattle.pdn_schema.specs.Models.{TableModel, SchemaModel, no_table, table_of}
 use Rattle.pdn_schema.specs.Rows.{HasKinds, IsValid, AreValid, union, kinds_of, column_kinds}
-use Rattle.pdn_plan.specs.Columns.{Wide}
-use Rattle.pdn_plan.specs.Meaning.{Rows}
+use Rattle.pdn_tree.specs.Columns.{Wide}
+use Rattle.pdn_tree.specs.Meaning.{Rows}
 use Rattle.pdn_plan.specs.Answer.{TablesFit}
 use Rattle.pdn_plan.proofs.Looking.{all-append}
 

@@ -8,13 +8,13 @@ use Rattle.pdn_sql.specs.declared.query.Source.{Source}
 use Rattle.pdn_sql.specs.declared.query.Block.{Block}
 use Rattle.pdn_sql.specs.declared.query.Named.{Named}
 use Rattle.pdn_sql.specs.declared.query.Query.{Query}
-use Rattle.pdn_plan.specs.declared.node.Node.{Node}
-use Rattle.pdn_plan.specs.declared.node.Node.TheVariants as node
+use Rattle.pdn_tree.specs.declared.node.Node.{Node}
+use Rattle.pdn_tree.specs.declared.node.Node.TheVariants as node
 use Rattle.pdn_plan.specs.declared.scope.Refusal.{Refusal}
 use Rattle.pdn_plan.specs.declared.scope.Relation.{Relation}
 use Rattle.pdn_plan.specs.declared.scope.Seen.{Seen}
 use Rattle.pdn_plan.specs.declared.scope.Earlier.{Earlier}
-use Rattle.pdn_plan.specs.Shapes.{nodes, tops}
+use Rattle.pdn_tree.specs.Shapes.{nodes, tops}
 use Rattle.pdn_plan.specs.Steps.{output_name, order_keys}
 use Rattle.pdn_plan.specs.Names.{or_else, refuse_if}
 use Rattle.pdn_plan.specs.Planning.{given_column, table_from, earlier_or, plan_of, seen_by, scope_of, bounds, bound_with, topped, root}

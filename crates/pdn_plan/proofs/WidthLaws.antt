@@ -8,9 +8,9 @@ use Rattle.pdn_base.specs.declared.order.Key.{Key}
 use Rattle.pdn_base.specs.Values.{cell, cut, same_row}
 use Rattle.pdn_base.specs.Bags.{times}
 use Rattle.pdn_base.specs.Operators.{project_rows, group_rows, distinct_rows, number_rows, number_from, allows, place_of}
-use Rattle.pdn_plan.specs.Meaning.{Rows}
-use Rattle.pdn_plan.specs.Columns.{Wide}
-use Rattle.pdn_plan.proofs.ColumnLaws.{cell-right}
+use Rattle.pdn_tree.specs.Meaning.{Rows}
+use Rattle.pdn_tree.specs.Columns.{Wide}
+use Rattle.pdn_tree.proofs.ColumnLaws.{cell-right}
 use Rattle.pdn_plan.proofs.Pushing.{map-map, map-agree}
 use Rattle.pdn_plan.proofs.KeepLaws.{range-shift}
 

@@ -21,8 +21,8 @@ use Rattle.pdn_sql.specs.declared.query.Item.{Item}
 use Rattle.pdn_sql.specs.declared.query.Block.{Block}
 use Rattle.pdn_sql.specs.declared.query.Named.{Named}
 use Rattle.pdn_sql.specs.declared.query.Query.{Query}
-use Rattle.pdn_plan.specs.Meaning.{Rows}
-use Rattle.pdn_plan.specs.Columns.{has, place_in, Wide}
+use Rattle.pdn_tree.specs.Meaning.{Rows}
+use Rattle.pdn_tree.specs.Columns.{has, place_in, Wide}
 use Rattle.pdn_plan.specs.Steps.{step_of, key_at, items_at, items_columns, output_name, alias_or, order_keys}
 use Rattle.pdn_plan.specs.declared.steps.Step.{Step}
 use Rattle.pdn_plan.specs.declared.steps.Step.TheVariants.{Grouped, Counted, Numbered, Unchanged}

@@ -13,15 +13,15 @@ use Rattle.pdn_sql.specs.declared.query.Block.{Block}
 use Rattle.pdn_sql.specs.declared.query.Named.{Named}
 use Rattle.pdn_sql.specs.declared.query.OrderName.{OrderName}
 use Rattle.pdn_sql.specs.declared.query.Query.{Query}
-use Rattle.pdn_plan.specs.declared.plan.PlanErr.{PlanErr}
-use Rattle.pdn_plan.specs.declared.plan.PlanErr.TheVariants as err
-use Rattle.pdn_plan.specs.declared.plan.OutColumn.{OutColumn}
-use Rattle.pdn_plan.specs.Columns.{has}
+use Rattle.pdn_plan.specs.declared.plan_err.PlanErr.{PlanErr}
+use Rattle.pdn_plan.specs.declared.plan_err.PlanErr.TheVariants as err
+use Rattle.pdn_tree.specs.declared.plan.OutColumn.{OutColumn}
+use Rattle.pdn_tree.specs.Columns.{has}
 use Rattle.pdn_plan.specs.Names.{first, first_of, or_else, refuse_if, by_count, col_refusal, cond_refusal, place}
 use Rattle.pdn_plan.specs.Steps.{step_of, output_name, is_number, counts}
 use Rattle.pdn_plan.specs.Planning.{relation, source_name, seen_by, scope_of, bounds, kept, step_width, block_relation, root, columns}
-use Rattle.pdn_plan.specs.Shapes.{has_join, nodes}
-use Rattle.pdn_plan.specs.Plans.{PlanModel, forbidden}
+use Rattle.pdn_tree.specs.Shapes.{has_join, nodes}
+use Rattle.pdn_tree.specs.Plans.{PlanModel, forbidden}
 use Rattle.pdn_plan.specs.declared.scope.Bound.{Bound}
 use Rattle.pdn_plan.specs.declared.scope.Refusal.{Refusal}
 use Rattle.pdn_plan.specs.declared.scope.Seen.{Seen}

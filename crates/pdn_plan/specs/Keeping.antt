@@ -1,19 +1,19 @@
 -- What is kept of the blocks that were bound, so that no tree grows past what a plan may have.
 use Rattle.std.specs.Prelude.{◌≡◌, ℕ, zero, suc, nat_lt, Bool, true, false, cond, List, [], ◌∷◌, ◌++◌, map, Option, Some, None}
-use Rattle.pdn_plan.specs.declared.node.Node.{Node}
-use Rattle.pdn_plan.specs.declared.node.Node.TheVariants as node
+use Rattle.pdn_tree.specs.declared.node.Node.{Node}
+use Rattle.pdn_tree.specs.declared.node.Node.TheVariants as node
 use Rattle.pdn_plan.specs.declared.scope.Relation.{Relation}
 use Rattle.pdn_plan.specs.declared.scope.Earlier.{Earlier}
 use Rattle.pdn_schema.specs.Models.{SchemaModel}
 use Rattle.pdn_sql.specs.declared.query.Block.{Block}
 use Rattle.pdn_sql.specs.declared.query.Named.{Named}
-use Rattle.pdn_plan.specs.Shapes.{nodes, has_join}
+use Rattle.pdn_tree.specs.Shapes.{nodes, has_join}
 use Rattle.pdn_plan.specs.Names.{or_else, refuse_if}
 use Rattle.pdn_plan.specs.Planning.{block_relation, topped}
 use Rattle.pdn_plan.specs.Binding.{with_refusal, main_refusal}
-use Rattle.pdn_plan.specs.declared.plan.OutColumn.{OutColumn}
-use Rattle.pdn_plan.specs.declared.plan.PlanErr.{PlanErr}
-use Rattle.pdn_plan.specs.declared.plan.PlanErr.TheVariants as err
+use Rattle.pdn_tree.specs.declared.plan.OutColumn.{OutColumn}
+use Rattle.pdn_plan.specs.declared.plan_err.PlanErr.{PlanErr}
+use Rattle.pdn_plan.specs.declared.plan_err.PlanErr.TheVariants as err
 use Rattle.pdn_plan.specs.declared.scope.Refusal.{Refusal}
 
 -- so many Distincts above a tree

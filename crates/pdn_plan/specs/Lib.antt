@@ -1,7 +1,3 @@
-pub mod Meaning
-pub mod Shapes
-pub mod Plans
-pub mod Columns
 pub mod Splitting
 pub mod Names
 pub mod Steps

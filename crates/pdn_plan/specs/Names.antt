@@ -16,8 +16,8 @@ use Rattle.pdn_sql.specs.declared.query.SqlCmp.{SqlCmp}
 use Rattle.pdn_sql.specs.declared.query.SqlClause.{SqlClause}
 use Rattle.pdn_plan.specs.declared.scope.Refusal.{Refusal}
 use Rattle.pdn_plan.specs.declared.scope.Seen.{Seen}
-use Rattle.pdn_plan.specs.Shapes.{kind_at, same_kind}
-use Rattle.pdn_plan.specs.Columns.{Clauses}
+use Rattle.pdn_tree.specs.Shapes.{kind_at, same_kind}
+use Rattle.pdn_tree.specs.Columns.{Clauses}
 
 -- the first of several refusals that is one
 abbrev pub or_else : Option Refusal → Option Refusal → Option Refusal

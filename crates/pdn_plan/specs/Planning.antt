@@ -13,15 +13,15 @@ use Rattle.pdn_sql.specs.declared.query.Source.{Source}
 use Rattle.pdn_sql.specs.declared.query.Block.{Block}
 use Rattle.pdn_sql.specs.declared.query.Named.{Named}
 use Rattle.pdn_sql.specs.declared.query.Query.{Query}
-use Rattle.pdn_plan.specs.declared.node.Node.{Node}
-use Rattle.pdn_plan.specs.declared.node.Node.TheVariants as node
-use Rattle.pdn_plan.specs.Columns.{Clauses, clauses_at, place_in, shifted, has}
-use Rattle.pdn_plan.specs.declared.plan.OutColumn.{OutColumn}
+use Rattle.pdn_tree.specs.declared.node.Node.{Node}
+use Rattle.pdn_tree.specs.declared.node.Node.TheVariants as node
+use Rattle.pdn_tree.specs.Columns.{Clauses, clauses_at, place_in, shifted, has}
+use Rattle.pdn_tree.specs.declared.plan.OutColumn.{OutColumn}
 use Rattle.pdn_base.specs.declared.marks.Label.{Label}
 use Rattle.pdn_plan.specs.declared.scope.Given.{Given}
 use Rattle.pdn_plan.specs.declared.scope.Relation.{Relation}
 use Rattle.pdn_plan.specs.declared.scope.Earlier.{Earlier}
-use Rattle.pdn_plan.specs.Shapes.{labels, label_at}
+use Rattle.pdn_tree.specs.Shapes.{labels, label_at}
 use Rattle.pdn_plan.specs.Splitting.{Part, split, left_over, clauses_columns, ons}
 use Rattle.pdn_plan.specs.Steps.{step_of, key_at, items_at, items_columns, output_name, alias_or, order_keys}
 use Rattle.pdn_plan.specs.declared.steps.Step.{Step}

@@ -4,11 +4,11 @@ use Rattle.std.specs.List.{list_all, range_with_len, flat_map}
 use Rattle.pdn_base.specs.declared.cond.Operand.{Operand}
 use Rattle.pdn_base.specs.declared.cond.Operand.TheVariants as operand
 use Rattle.pdn_base.specs.declared.cond.Cmp.{Cmp}
-use Rattle.pdn_plan.specs.declared.node.Node.{Node}
+use Rattle.pdn_tree.specs.declared.node.Node.{Node}
 use Rattle.pdn_plan.specs.declared.scope.Bound.{Bound}
 use Rattle.pdn_plan.specs.declared.split.Renaming.{Renaming}
 use Rattle.pdn_plan.specs.declared.split.Renaming.TheVariants as renaming
-use Rattle.pdn_plan.specs.Columns.{Clauses, clauses_at, place_in}
+use Rattle.pdn_tree.specs.Columns.{Clauses, clauses_at, place_in}
 
 -- each column that is named passes the test
 abbrev pub operand_passes : (ℕ → Bool) → Operand → Bool

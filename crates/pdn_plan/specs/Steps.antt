@@ -11,7 +11,7 @@ use Rattle.pdn_sql.specs.declared.query.What.{What}
 use Rattle.pdn_sql.specs.declared.query.What.TheVariants as what
 use Rattle.pdn_sql.specs.declared.query.Item.{Item}
 use Rattle.pdn_sql.specs.declared.query.Block.{Block}
-use Rattle.pdn_plan.specs.Columns.{has}
+use Rattle.pdn_tree.specs.Columns.{has}
 use Rattle.pdn_plan.specs.declared.steps.Step.{Step}
 use Rattle.pdn_plan.specs.declared.steps.Step.TheVariants.{Grouped, Counted, Numbered, Unchanged}
 

@@ -1,24 +1,24 @@
 //! The columns of an answer: their names, kinds and labels, and the first that may not be shown.
 
 ghost use Rattle.std.specs.Prelude.{◌≡◌, ◌++◌, ◌∷◌, [], None, slice_get, map, IfOk, MatchResult};
-ghost use Rattle.pdn_plan.specs.Shapes.{labels};
-ghost use Rattle.pdn_plan.specs.Columns.{has};
+ghost use Rattle.pdn_tree.specs.Shapes.{labels};
+ghost use Rattle.pdn_tree.specs.Columns.{has};
 ghost use Rattle.pdn_plan.specs.Steps.{output_name, name_place, order_key, order_keys, firsts};
 ghost use Rattle.pdn_plan.specs.Planning.{seen_text, shown_as, what_kind, out_columns};
-ghost use Rattle.pdn_plan.specs.Plans.{forbidden};
+ghost use Rattle.pdn_tree.specs.Plans.{forbidden};
 ghost use Rattle.pdn_plan.specs.Keeping.{Forbids};
 
 use crate::Node;
 use crate::block::what_kind;
-use crate::labels::{is_public, label_at, labels_of};
 use crate::names::place;
-use crate::plan::{OutColumn, PlanErr};
+use crate::plan_err::PlanErr;
 use crate::refusals::output_name;
 use crate::scope::Seen;
 use crate::split::has;
 use pdn_base::{ColumnName, Key, Label, Memory, Name};
 use pdn_schema::Schema;
 use pdn_sql::{Item, OrderName, Text, What};
+use pdn_tree::{OutColumn, is_public, label_at, labels_of};
 use std::alloc::Global;
 
 /// A name as a refusal or a plan speaks it. One that is no UTF-8, which no query has, is answered as want of memory.

@@ -1,9 +1,9 @@
 //! Binding: the plan of a query, or why it has none.
 
 ghost use Rattle.std.specs.Prelude.{◌≡◌, ◌++◌, ◌∷◌, [], ◌||◌, nat_lt, true, map, is_some, None, IfOk, MatchResult};
-ghost use Rattle.pdn_plan.specs.Shapes.{nodes, is_top, tops, fits};
+ghost use Rattle.pdn_tree.specs.Shapes.{nodes, is_top, tops, fits};
 ghost use Rattle.pdn_plan.specs.Steps.{output_name};
-ghost use Rattle.pdn_plan.specs.Plans.{forbidden};
+ghost use Rattle.pdn_tree.specs.Plans.{forbidden};
 ghost use Rattle.pdn_plan.specs.Answer.{IsWritten};
 ghost use Rattle.pdn_plan.specs.Names.{or_else, refuse_if};
 ghost use Rattle.pdn_plan.specs.Planning.{relation, scope_of, bounds, block_node, block_gives, block_relation, bound_with, topped, root};
@@ -14,14 +14,14 @@ use crate::Node;
 use crate::answer::{answer_columns, order_keys, released, shown};
 use crate::block::{block_node, kept_relation};
 use crate::names::refuse_if;
-use crate::plan::{OutColumn, Plan, PlanErr};
+use crate::plan_err::PlanErr;
 use crate::refusals::{after_sources, kind_seven, order_refusals, output_names, repeat_refusal};
 use crate::scope::{Bound, Earlier, Refusal, Seen};
 use crate::sources::{bounds, joins_below, relation, scope_of, sources_refusal};
-use crate::tree::{make_top, nodes_of};
 use pdn_base::Memory;
 use pdn_schema::Schema;
 use pdn_sql::{Block, Named, Query, Text};
+use pdn_tree::{OutColumn, Plan, make_top, nodes_of};
 use std::alloc::Global;
 
 fn pass(alloc: Global, refusal: Option<Refusal>) -> Result<(), PlanErr>

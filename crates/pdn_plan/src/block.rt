@@ -1,7 +1,7 @@
 //! The tree of a block, and what it gives to later ones.
 
 ghost use Rattle.std.specs.Prelude.{◌≡◌, IfOk, length, map};
-ghost use Rattle.pdn_plan.specs.Columns.{place_in, has, clauses_at};
+ghost use Rattle.pdn_tree.specs.Columns.{place_in, has, clauses_at};
 ghost use Rattle.pdn_plan.specs.Splitting.{left_over, split};
 ghost use Rattle.pdn_plan.specs.Names.{place, placed};
 ghost use Rattle.pdn_plan.specs.Steps.{items_at, output_name};
@@ -16,11 +16,10 @@ use crate::split::{Renaming, clauses_at, left_over};
 use crate::steps::{
     Step, items_at, kept_columns, make_step, named_columns, step_columns, step_of, step_width,
 };
-use crate::tree::{
-    cut_to, distinct_if, filtered, has_join_in, make_distinct, make_join, nodes_of, sources_node,
-};
+use crate::tree::{cut_to, distinct_if, filtered, sources_node};
 use pdn_base::{Cond, Kind, Memory};
 use pdn_sql::{Block, Item, What};
+use pdn_tree::{has_join_in, make_distinct, make_join, nodes_of};
 use sqlite_items::Items;
 use std::alloc::Global;
 

@@ -5,11 +5,11 @@ ghost use Rattle.std.specs.List.{AllByRecursion};
 ghost use Rattle.pdn_schema.specs.Rows.{AreValid, union};
 ghost use Rattle.pdn_sql.specs.declared.query.Query.{Query};
 ghost use Rattle.pdn_sql.specs.Reading.{Says};
-ghost use Rattle.pdn_plan.specs.Meaning.{Rows, mean};
+ghost use Rattle.pdn_tree.specs.Meaning.{Rows, mean};
 ghost use Rattle.pdn_plan.specs.Planning.{root};
 ghost use Rattle.pdn_plan.specs.Binding.{refusal};
 ghost use Rattle.pdn_plan.specs.Answer.{TablesFit, IsWritten, answer};
-ghost use Rattle.pdn_plan.specs.Shapes.{fits};
+ghost use Rattle.pdn_tree.specs.Shapes.{fits};
 
 use pdn_schema::Schema;
 use pdn_sql::Query;

@@ -4,11 +4,9 @@
 mod answer;
 mod binding;
 mod block;
-mod labels;
 mod laws;
 mod names;
-mod node;
-mod plan;
+mod plan_err;
 mod refusals;
 mod scope;
 mod sources;
@@ -17,7 +15,6 @@ mod steps;
 mod tree;
 
 pub use binding::bind;
-pub use labels::labels_of;
 pub use laws::{plan_fits_schema, plan_means_answer, texts_are_written, valid_unions_fit};
-pub use node::Node;
-pub use plan::{OutColumn, Plan, PlanErr};
+pub use pdn_tree::{Node, OutColumn, Plan, labels_of};
+pub use plan_err::PlanErr;

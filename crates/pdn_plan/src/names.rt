@@ -2,7 +2,7 @@
 
 ghost use Rattle.std.specs.Prelude.{◌≡◌, IfOk, count_by, Some, None, map};
 ghost use Rattle.std.specs.Str.{bytes_eq};
-ghost use Rattle.pdn_plan.specs.Shapes.{kind_at, same_kind};
+ghost use Rattle.pdn_tree.specs.Shapes.{kind_at, same_kind};
 ghost use Rattle.pdn_plan.specs.Names.{of_fits, col_fits, with_source, col_text, by_count, col_refusal, place, scope_kinds, col_kind, sums_code, operand_refusal, operand_kind, operand_sums_code, clashes, refuse_if, cmp_refusal, clause_refusal, cond_refusal, first_of, placed_term, placed_operand, placed_cmp, placed_clause, placed};
 ghost use Rattle.pdn_base.specs.declared.marks.Kind.TheVariants as kind;
 ghost use Rattle.pdn_base.specs.declared.cond.Operand.TheVariants as operand;

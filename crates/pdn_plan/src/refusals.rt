@@ -4,7 +4,7 @@ ghost use Rattle.std.specs.Prelude.{◌≡◌, ◌||◌, ◌&&◌, IfOk, List, �
 ghost use Rattle.std.specs.Str.{bytes_eq};
 ghost use Rattle.std.specs.List.{list_any};
 ghost use Rattle.pdn_schema.specs.Names.{is_among};
-ghost use Rattle.pdn_plan.specs.Columns.{has};
+ghost use Rattle.pdn_tree.specs.Columns.{has};
 ghost use Rattle.pdn_plan.specs.Names.{first, first_of, or_else, refuse_if, by_count, col_refusal, place};
 ghost use Rattle.pdn_plan.specs.Steps.{is_number, what_name, output_name};
 ghost use Rattle.pdn_plan.specs.Binding.{what_refusal, items_refusal, is_loose, is_some_of, is_grouped, loose_refusal, is_counted, is_wide, after_given, repeat_refusal, order_refusal};

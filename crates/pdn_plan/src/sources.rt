@@ -5,19 +5,19 @@ ghost use Rattle.std.specs.List.{list_any};
 ghost use Rattle.pdn_schema.specs.Names.{is_among};
 ghost use Rattle.pdn_plan.specs.Names.{or_else, refuse_if, cond_refusal, placed};
 ghost use Rattle.pdn_plan.specs.Planning.{given_column, table_from, relation, columns_of, plan_of, source_name, seen_as, seen_by, scope_of, bounds};
-ghost use Rattle.pdn_plan.specs.Shapes.{has_join};
+ghost use Rattle.pdn_tree.specs.Shapes.{has_join};
 ghost use Rattle.pdn_plan.specs.Binding.{sources_refusal, joins_below};
-ghost use Rattle.pdn_plan.specs.declared.node.Node.TheVariants as node;
+ghost use Rattle.pdn_tree.specs.declared.node.Node.TheVariants as node;
 
 use crate::Node;
 use crate::names::{cond_refusal, placed, refuse_if};
 use crate::refusals::is_among;
 use crate::scope::{Bound, Earlier, Given, Refusal, Relation, Seen};
 use crate::steps::count_of;
-use crate::tree::{copy_node, has_join_in};
 use pdn_base::Memory;
 use pdn_schema::{Column, Schema, Table};
 use pdn_sql::{Source, SqlClause, Text};
+use pdn_tree::has_join_in;
 use sqlite_items::Items;
 use std::alloc::Global;
 
@@ -85,7 +85,7 @@ fn copy_relation(alloc: Global, relation: &Relation) -> Result<Relation, Memory>
     ensures { IfOk result (λ r. r ≡ relation.now) }
 {
     let columns = Items::from_vec(copy_columns(alloc, relation.columns.as_slice())?);
-    let plan = copy_node(alloc, &relation.plan)?;
+    let plan = relation.plan.copy(alloc)?;
     Ok(Relation { columns, plan })
 }
 

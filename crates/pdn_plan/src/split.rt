@@ -2,11 +2,12 @@
 
 ghost use Rattle.std.specs.Prelude.{◌≡◌, ◌++◌, ◌+◌, ◌∷◌, [], cond, IfOk, map, filter};
 ghost use Rattle.std.specs.List.{flat_map, range_with_len};
-ghost use Rattle.pdn_plan.specs.Columns.{place_in, has, shifted, operand_at, cmp_at, clauses_at};
+ghost use Rattle.pdn_tree.specs.Columns.{place_in, has, shifted, operand_at, cmp_at, clauses_at};
 ghost use Rattle.pdn_plan.specs.Splitting.{renamed, is_of, operand_passes, cmp_passes, clause_passes, operand_columns, cmp_columns, clauses_columns, local_to, left_by, kept_of, left_over, ons};
 
 use crate::scope::Bound;
 use pdn_base::{Clause, Cmp, Cond, Memory, Operand, Term};
+use pdn_tree::copy_clause;
 use sqlite_items::Items;
 use std::alloc::Global;
 
@@ -122,13 +123,6 @@ fn clause_passes(from: u32, width: u32, clause: &Clause) -> bool
             ensures { result ≡ cmp_passes (is_of from width) cmp.now }
         { is_of(from, width, cmp.left.column) && operand_passes(from, width, &cmp.right) },
     )
-}
-
-fn copy_clause(alloc: Global, clause: &Clause) -> Result<Clause, Memory>
-    ensures { IfOk result (λ c. c ≡ clause.now) }
-{
-    let any = Vec::from_slice(alloc, clause.any.as_slice())?;
-    Ok(Clause { any })
 }
 
 fn mine(alloc: Global, from: u32, width: u32, asked: &Cond) -> Result<Cond, Memory>
@@ -277,15 +271,4 @@ pub fn with_shifted(kept: Vec<u32>, from: u32, keep: &[u32]) -> Result<Vec<u32>,
         out.push(sum(from, *column)?)?;
     }
     Ok(out)
-}
-
-/// An equal condition.
-pub fn copy_cond(alloc: Global, cond: &Cond) -> Result<Cond, Memory>
-    ensures { IfOk result (λ c. c ≡ cond.now) }
-{
-    let mut all = Vec::new(alloc);
-    for clause in &cond.all {
-        all.push(copy_clause(alloc, clause)?)?;
-    }
-    Ok(Cond { all })
 }

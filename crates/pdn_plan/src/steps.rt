@@ -2,7 +2,7 @@
 
 ghost use Rattle.std.specs.Prelude.{◌≡◌, ◌++◌, ◌+◌, [], length, map, IfOk};
 ghost use Rattle.std.specs.List.{flat_map};
-ghost use Rattle.pdn_plan.specs.Columns.{place_in};
+ghost use Rattle.pdn_tree.specs.Columns.{place_in};
 ghost use Rattle.pdn_plan.specs.Names.{place};
 ghost use Rattle.pdn_plan.specs.Steps.{firsts, is_count, counts, window_key, window_step, step_of, what_columns, items_columns, what_at, items_at, key_at};
 ghost use Rattle.pdn_plan.specs.Planning.{named, kept, step_node, step_columns, step_width};
@@ -12,9 +12,9 @@ use crate::Node;
 use crate::names::{place, placed, places};
 use crate::scope::{Bound, Seen};
 use crate::split::{clauses_columns, has, left_over, needed_below, ons_columns, place_in};
-use crate::tree::{make_count, make_group, make_number};
 use pdn_base::{Key, Memory};
 use pdn_sql::{Block, Col, Item, OrderCol, What};
+use pdn_tree::{make_count, make_group, make_number};
 use sqlite_items::Items;
 use std::alloc::Global;
 

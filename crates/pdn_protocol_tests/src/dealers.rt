@@ -1,5 +1,6 @@
-use crate::{ChaChaDeal, Deal, ListDeal};
+//! Words of the tape.
 use pdn_base::Word;
+use pdn_dealer::{ChaChaDeal, Deal, ListDeal};
 use std::test::Fail;
 
 // The key stream vectors of RFC 8439: appendix A.1, numbers 1 to 5, and section 2.3.2. There the counter has 32

@@ -1,13 +1,14 @@
+//! One And gate by two halves, frame by frame and at once.
 ghost use Rattle.std.specs.Prelude.{◌≡◌, length, IfOk, IsTrue};
 ghost use Rattle.pdn_gmw.specs.declared.stage.Stage.TheVariants.{Wanting, Over};
 ghost use Rattle.pdn_base.specs.declared.site.Site.TheVariants.{A, B};
-ghost use Rattle.pdn_circuit.specs.Gates.{is_input_of, input_count, given_count};
+ghost use Rattle.pdn_circuit.specs.Gates.{input_count, given_count};
 ghost use Rattle.pdn_gmw.specs.Pairs.{ArePair};
 
-use crate::{FrameErr, Half, Step, run_pair};
 use pdn_base::{Memory, Site, Word};
-use pdn_circuit::{Builder, Circuit, Gate};
+use pdn_circuit::{Builder, Circuit};
 use pdn_dealer::{ChaChaDeal, Deal, ListDeal, section_len};
+use pdn_gmw::{FrameErr, Half, Step, run_pair};
 use std::alloc::Global;
 use std::test::Fail;
 
@@ -22,36 +23,6 @@ fn deal_words(alloc: Global, numbers: &[u64]) -> Result<ListDeal, Fail> {
     let mut entries = Vec::new(alloc);
     entries.push((0, 0, words(alloc, numbers)?))?;
     Ok(ListDeal::new(entries))
-}
-
-fn takes(circuit: &Circuit, site: Site) -> usize
-    ensures { result ≡ input_count site circuit.now.gates }
-{
-    circuit
-        .gates
-        .iter()
-        .filter(|gate| is_of(site, gate))
-        .count()
-}
-
-fn is_of(site: Site, gate: &Gate) -> bool
-    ensures { result ≡ is_input_of site gate.now }
-{
-    match (site, gate) {
-        (Site::A, Gate::Input { site: Site::A, .. }) => true,
-        (Site::B, Gate::Input { site: Site::B, .. }) => true,
-        _ => false,
-    }
-}
-
-fn takes_given(circuit: &Circuit) -> usize
-    ensures { result ≡ given_count circuit.now.gates }
-{
-    circuit
-        .gates
-        .iter()
-        .filter(|gate| matches!(gate, Gate::Given { .. }))
-        .count()
 }
 
 // Both halves of a circuit without given words, on the section of ticket 0 and unit 0.
@@ -96,8 +67,9 @@ fn outputs<D: Deal>(
     a: &[u64],
     b: &[u64],
 ) -> Result<(u64, u64), Fail> {
-    let counted = takes(circuit, Site::A) == a.len() && takes(circuit, Site::B) == b.len();
-    if !counted || takes_given(circuit) != 0 {
+    let counted = circuit.input_count(Site::A) == a.len()
+        && circuit.input_count(Site::B) == b.len();
+    if !counted || circuit.given_count() != 0 {
         return Ok((0, 0));
     }
     let (half_a, half_b) = halves(alloc, circuit, deal, a, b)?;
@@ -125,17 +97,6 @@ fn one_and(alloc: Global) -> Result<Circuit, Fail> {
 
 // r of both inputs, then a0, a1, b0, b1, c0, then the mask.
 const SECTION: [u64; 8] = [0x0f, 0x33, 0x55, 0x0f, 0x33, 0xff, 0xaa, 0x01];
-
-#[test]
-fn one_and_gate_by_hand(rt: HostRuntime) -> Result<(), Fail> {
-    let alloc = rt.alloc();
-    let circuit = one_and(alloc)?;
-    let deal = deal_words(alloc, &SECTION)?;
-    let (a, b) = outputs(alloc, &circuit, &deal, &[0xf0], &[0x3c])?;
-    assert_eq!(rt; a, 0x79);
-    assert_eq!(rt; b, 0x49);
-    Ok(())
-}
 
 fn sends(half: &mut Half, expected: &[u64]) -> bool {
     match half.next() {
@@ -173,8 +134,8 @@ fn a_short_frame_is_refused_and_the_right_one_still_taken(rt: HostRuntime) -> Re
     let alloc = rt.alloc();
     let circuit = one_and(alloc)?;
     let deal = deal_words(alloc, &SECTION)?;
-    assert!(rt; takes(&circuit, Site::A) == 1 && takes(&circuit, Site::B) == 1);
-    assert!(rt; takes_given(&circuit) == 0);
+    assert!(rt; circuit.input_count(Site::A) == 1 && circuit.input_count(Site::B) == 1);
+    assert!(rt; circuit.given_count() == 0);
     let (mut half_a, mut half_b) = halves(alloc, &circuit, &deal, &[0xf0], &[0x3c])?;
     assert!(rt; sends(&mut half_a, &[0xaa, 0x00]));
     assert!(rt; sends(&mut half_b, &[0x00, 0xf0]));
@@ -206,8 +167,8 @@ fn a_circuit_without_and_gates_sends_nothing(rt: HostRuntime) -> Result<(), Fail
     gates.push(z)?;
     let circuit = builder.finish(gates, false);
     let deal = deal_words(alloc, &[7, 9])?;
-    assert!(rt; takes(&circuit, Site::A) == 1 && takes(&circuit, Site::B) == 1);
-    assert!(rt; takes_given(&circuit) == 0);
+    assert!(rt; circuit.input_count(Site::A) == 1 && circuit.input_count(Site::B) == 1);
+    assert!(rt; circuit.given_count() == 0);
     let (mut half_a, mut half_b) = halves(alloc, &circuit, &deal, &[0xf0], &[0x3c])?;
     assert!(rt; is_done(&mut half_a));
     assert!(rt; is_done(&mut half_b));
@@ -218,12 +179,17 @@ fn a_circuit_without_and_gates_sends_nothing(rt: HostRuntime) -> Result<(), Fail
 }
 
 #[test]
-fn the_sum_is_the_same_for_every_tape(rt: HostRuntime) -> Result<(), Fail> {
+fn one_and_gate_is_as_by_hand_and_its_sum_the_same_for_every_tape(
+    rt: HostRuntime,
+) -> Result<(), Fail> {
     let alloc = rt.alloc();
     let circuit = one_and(alloc)?;
+    let given = deal_words(alloc, &SECTION)?;
     let zero = ListDeal::new(Vec::new(alloc));
     let ones = deal_words(alloc, &[u64::MAX; 8])?;
     let stream = ChaChaDeal::new([5; 32]);
+    let by_hand = outputs(alloc, &circuit, &given, &[0xf0], &[0x3c])?;
+    assert_eq!(rt; by_hand, (0x79, 0x49));
     let (a, b) = outputs(alloc, &circuit, &zero, &[0xf0], &[0x3c])?;
     assert_eq!(rt; a ^ b, 0x30, "zero words");
     let (a, b) = outputs(alloc, &circuit, &ones, &[0xf0], &[0x3c])?;

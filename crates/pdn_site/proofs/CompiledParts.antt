@@ -3,7 +3,7 @@ use Rattle.std.proofs.Common.{◌≡◌, ℕ, ◌+◌, List, [], ◌∷◌, map,
 use Rattle.pdn_base.specs.declared.value.Value.{Value}
 use Rattle.pdn_base.specs.Operators.{Rows}
 use Rattle.pdn_schema.specs.Models.{SchemaModel}
-use Rattle.pdn_plan.specs.declared.node.Node.{Node}
+use Rattle.pdn_tree.specs.declared.node.Node.{Node}
 use Rattle.pdn_level.specs.declared.staged.Leaf.{Leaf}
 use Rattle.pdn_level.specs.Models.{SegmentModel}
 use Rattle.pdn_level.specs.Levels.{segments_of}

@@ -13,9 +13,9 @@ use Rattle.pdn_circuit.specs.declared.gate.Gate.{Gate}
 use Rattle.pdn_circuit.specs.declared.gate.Gate.TheVariants.{Input, Given, Const, Xor, And, Spread, Move}
 use Rattle.pdn_circuit.specs.declared.tally.BuildErr.{BuildErr}
 use Rattle.pdn_circuit.specs.declared.tally.BuildErr.TheVariants as build
-use Rattle.pdn_circuit.specs.Gates.{Net, operands_of, ands}
+use Rattle.pdn_circuit.specs.Gates.{Net, operands_of, ands, is_and}
 use Rattle.pdn_circuit.specs.Building.{first_over, and_count}
-use Rattle.pdn_plan.specs.declared.node.Node.{Node}
+use Rattle.pdn_tree.specs.declared.node.Node.{Node}
 use Rattle.pdn_level.specs.declared.staged.Leaf.{Leaf}
 use Rattle.pdn_level.specs.Models.{SegmentModel}
 use Rattle.pdn_level.specs.Levels.{leaves_of, segments_of}
@@ -33,7 +33,7 @@ use Rattle.pdn_site.specs.Circuits.{Part, Laid, laid_leaf, laid_step}
 use Rattle.pdn_site.specs.Through.{sized_through}
 use Rattle.pdn_site.specs.Built.{laid_through}
 use Rattle.pdn_site.specs.Compiling.{Shape, Compiled, shape_by, shapes_from, root_shape, parts_of, node_at, unit_of, with_unit, fitted, within, circuit_of, gates_of, compiled, IsTooLarge}
-use Rattle.pdn_site.specs.Budget.{is_and, shape_along, segment_along, shapes_along, all_of, spent, compiled_left, IsOver, with_units, unit_part, Reaches, Passes, passed_by, first_left, Batch, MakesUnits, Below, IsBelow, MakesBelow}
+use Rattle.pdn_site.specs.Budget.{shape_along, segment_along, shapes_along, all_of, spent, compiled_left, IsOver, with_units, unit_part, Reaches, Passes, passed_by, first_left, Batch, MakesUnits, Below, IsBelow, MakesBelow}
 use Rattle.pdn_site.proofs.ThroughLaws.{through_followed, sized_is}
 use Rattle.pdn_site.proofs.SliceLaws.{sound_top}
 

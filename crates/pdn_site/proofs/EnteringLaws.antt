@@ -5,12 +5,12 @@ use Rattle.pdn_base.specs.declared.value.Value.{Value}
 use Rattle.pdn_base.specs.Operators.{Rows, SameRows}
 use Rattle.pdn_base.proofs.Listing.{top_bag}
 use Rattle.pdn_schema.specs.Models.{SchemaModel}
-use Rattle.pdn_plan.specs.declared.node.Node.{Node, Node-F, fold-roll-Node, roll-Node}
-use Rattle.pdn_plan.specs.declared.node.Node.TheFolds.{ind-Node, map-Node}
-use Rattle.pdn_plan.specs.declared.node.Node.TheVariants as node
-use Rattle.pdn_plan.specs.declared.node.Node.TheVariants.{rolls-Filter, rolls-Project, rolls-Join}
-use Rattle.pdn_plan.specs.Meaning.{mean, table_of}
-use Rattle.pdn_plan.specs.Shapes.{kinds}
+use Rattle.pdn_tree.specs.declared.node.Node.{Node, Node-F, fold-roll-Node, roll-Node}
+use Rattle.pdn_tree.specs.declared.node.Node.TheFolds.{ind-Node, map-Node}
+use Rattle.pdn_tree.specs.declared.node.Node.TheVariants as node
+use Rattle.pdn_tree.specs.declared.node.Node.TheVariants.{rolls-Filter, rolls-Project, rolls-Join}
+use Rattle.pdn_tree.specs.Meaning.{mean, table_of}
+use Rattle.pdn_tree.specs.Shapes.{kinds}
 use Rattle.pdn_base.specs.declared.cond.Cmp.{Cmp}
 use Rattle.pdn_level.specs.declared.staged.Leaf.{Leaf}
 use Rattle.pdn_obl_rows.specs.Encoding.{encoded}

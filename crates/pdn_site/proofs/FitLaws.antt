@@ -9,7 +9,7 @@ use Rattle.pdn_base.specs.declared.cond.Term.{Term}
 use Rattle.pdn_base.specs.declared.cond.Operand.{Operand}
 use Rattle.pdn_base.specs.declared.cond.Operand.TheVariants as operand
 use Rattle.pdn_base.specs.declared.cond.Cmp.{Cmp}
-use Rattle.pdn_plan.specs.Shapes.{kind_at, same_kind, all_within, key_columns, term_fits, operand_fits, cmp_fits, cond_fits}
+use Rattle.pdn_tree.specs.Shapes.{kind_at, same_kind, all_within, key_columns, term_fits, operand_fits, cmp_fits, cond_fits}
 use Rattle.pdn_obl_rows.specs.Conditions.{PlusFits, TermFits, OperandFits, CmpFits, ClauseFits, CondFits}
 use Rattle.pdn_obl_group.specs.Means.{HavingFits}
 use Rattle.pdn_obl_rank.specs.Keys.{KeysFit}

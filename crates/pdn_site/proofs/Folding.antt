@@ -1,7 +1,7 @@
 -- What is made of a tree, seen through a function.
 use Rattle.std.proofs.Common.{◌≡◌, sym, ap, ap₂, ◌∙◌, subst}
-use Rattle.pdn_plan.specs.declared.node.Node.{Node, Node-F, fold-Node, fold-roll-Node}
-use Rattle.pdn_plan.specs.declared.node.Node.TheFolds.{ind-Node, map-Node}
+use Rattle.pdn_tree.specs.declared.node.Node.{Node, Node-F, fold-Node, fold-roll-Node}
+use Rattle.pdn_tree.specs.declared.node.Node.TheFolds.{ind-Node, map-Node}
 
 module _ {X Y : Type 0} (step : Node-F X → X) (step' : Node-F Y → Y) (f : X → Y) (at_step : (y : Node-F X) → f (step y) ≡ step' (map-Node X Y f y)) where
   abbrev Seen : Node → Type 0

@@ -1,8 +1,8 @@
 -- What is made along a slice column, seen through a function.
 use Rattle.std.proofs.Common.{◌≡◌, ℕ, Bool, List, refl, ap, ap₂, ◌∙◌, subst, get_or}
 use Rattle.pdn_schema.specs.Models.{SchemaModel}
-use Rattle.pdn_plan.specs.declared.node.Node.{Node, Node-F, fold-roll-Node}
-use Rattle.pdn_plan.specs.declared.node.Node.TheFolds.{ind-Node, map-Node}
+use Rattle.pdn_tree.specs.declared.node.Node.{Node, Node-F, fold-roll-Node}
+use Rattle.pdn_tree.specs.declared.node.Node.TheFolds.{ind-Node, map-Node}
 use Rattle.pdn_level.specs.Links.{link_at}
 use Rattle.pdn_level.specs.Slices.{Followed, followed_step, followed, linked, slice_step}
 

@@ -11,8 +11,8 @@ use Rattle.pdn_base.specs.Operators.{Rows}
 use Rattle.pdn_schema.specs.declared.schema.Column.{Column}
 use Rattle.pdn_schema.specs.Models.{TableModel, SchemaModel, no_table, table_of}
 use Rattle.pdn_schema.specs.Rows.{AreValid, HasKinds, kinds_of, column_kinds}
-use Rattle.pdn_plan.specs.Shapes.{columns_in}
-use Rattle.pdn_plan.specs.Meaning.{table_of as rows_of}
+use Rattle.pdn_tree.specs.Shapes.{columns_in}
+use Rattle.pdn_tree.specs.Meaning.{table_of as rows_of}
 use Rattle.pdn_obl_rows.specs.Encoding.{RowIsOf, RowsAreOf}
 use Rattle.pdn_site.specs.Circuits.{table_kinds}
 use Rattle.pdn_site.specs.Meaning.{AreTables}

@@ -1,6 +1,5 @@
 -- What a tree means whose leaves read only the rows with a value.
 use Rattle.std.proofs.Common.{◌≡◌, ℕ, ◌+◌, Bool, true, false, List, [], ◌++◌, drop, length, get_or, refl, sym, ap, ap₂, ◌∙◌, subst, ⊎_elim, append_assoc, length-append, drop_at}
-use Rattle.std.proofs.Math.Seq.{drop-nil}
 use Rattle.std.proofs.lemmas.Bool.{cases_Bool}
 use Rattle.std.specs.Ordering.{is_eq}
 use Rattle.pdn_base.specs.declared.value.Value.{Value}
@@ -11,11 +10,11 @@ use Rattle.pdn_base.specs.Conditions.{meets, operand_value}
 use Rattle.pdn_base.specs.Operators.{filter_rows, project_rows, join_rows, group_rows, count_rows, distinct_rows, number_rows, top_rows}
 use Rattle.pdn_base.proofs.RowLaws.{value_cmp-ties, is_eq-tie}
 use Rattle.pdn_schema.specs.Models.{SchemaModel}
-use Rattle.pdn_plan.specs.declared.node.Node.{Node, Node-F, fold-roll-Node, roll-Node}
-use Rattle.pdn_plan.specs.declared.node.Node.TheFolds.{ind-Node, map-Node}
-use Rattle.pdn_plan.specs.declared.node.Node.TheVariants as node
-use Rattle.pdn_plan.specs.declared.node.Node.TheVariants.{rolls-Scan, rolls-Filter, rolls-Project, rolls-Join, rolls-Group, rolls-Count, rolls-Distinct, rolls-Number, rolls-Top}
-use Rattle.pdn_plan.specs.Meaning.{Rows, mean, mean_step}
+use Rattle.pdn_tree.specs.declared.node.Node.{Node, Node-F, fold-roll-Node, roll-Node}
+use Rattle.pdn_tree.specs.declared.node.Node.TheFolds.{ind-Node, map-Node}
+use Rattle.pdn_tree.specs.declared.node.Node.TheVariants as node
+use Rattle.pdn_tree.specs.declared.node.Node.TheVariants.{rolls-Scan, rolls-Filter, rolls-Project, rolls-Join, rolls-Group, rolls-Count, rolls-Distinct, rolls-Number, rolls-Top}
+use Rattle.pdn_tree.specs.Meaning.{Rows, mean, mean_step}
 use Rattle.pdn_level.specs.declared.staged.Leaf.{Leaf}
 use Rattle.pdn_level.specs.Links.{link_at}
 use Rattle.pdn_level.specs.Slices.{Followed, followed, followed_step, slice_step}
@@ -139,27 +138,6 @@ module _ (schema : SchemaModel) (tables : ℕ → Rows) (v : Value) where
       (leaves_step_of (map-Node Node (Followed (List Leaf)) (followed_leaves schema) z))
       (narrowing_step v (map-Node Node Narrowing (narrowing v) z))
       (rows_step_of (map-Node Node (Followed Rows) (followed schema (cut_leaf tables v) (mean_step tables)) z))) is (layer y)))
-
--- ---- with no leaves it is an equal tree
-module _ (v : Value) where
-  abbrev Whole : Node → Type 0
-  Whole n = narrowed v n [] ≡ n
-
-  whole_layer : (y : Node-F ((n : Node) × Whole n)) → (narrowing_step v (map-Node Node Narrowing (narrowing v) (map-Node ((n : Node) × Whole n) Node (λ e. e.0) y))).tree [] ≡ roll-Node (map-Node ((n : Node) × Whole n) Node (λ e. e.0) y)
-  whole_layer (Node-F.Scan table) = sym (rolls-Scan table)
-  whole_layer (Node-F.Filter child cond) = ap (λ n. node.Filter n cond) child.1 ∙ sym (rolls-Filter child.0 cond)
-  whole_layer (Node-F.Project child columns) = ap (λ n. node.Project n columns) child.1 ∙ sym (rolls-Project child.0 columns)
-  whole_layer (Node-F.Join left right on) = ap₂ (λ m n. node.Join m n on) left.1 (ap (narrowed v right.0) (drop-nil (scans v left.0)) ∙ right.1) ∙ sym (rolls-Join left.0 right.0 on)
-  whole_layer (Node-F.Group child keys having) = ap (λ n. node.Group n keys having) child.1 ∙ sym (rolls-Group child.0 keys having)
-  whole_layer (Node-F.Count child) = ap node.Count child.1 ∙ sym (rolls-Count child.0)
-  whole_layer (Node-F.Distinct child) = ap node.Distinct child.1 ∙ sym (rolls-Distinct child.0)
-  whole_layer (Node-F.Number child partition order) = ap (λ n. node.Number n partition order) child.1 ∙ sym (rolls-Number child.0 partition order)
-  whole_layer (Node-F.Top child order limit) = ap (λ n. node.Top n order limit) child.1 ∙ sym (rolls-Top child.0 order limit)
-
-  pub whole : (n : Node) → narrowed v n [] ≡ n
-  whole = ind-Node Whole (λ x y is.
-      ap (λ (g : Narrowing). g.tree []) (fold-roll-Node Narrowing (narrowing_step v) x) ∙
-      (subst (λ (z : Node-F Node). (narrowing_step v (map-Node Node Narrowing (narrowing v) z)).tree [] ≡ roll-Node z) is (whole_layer y)))
 
 -- ---- through the leaves to which its slice column is traced, a tree means what it means at the value
 pub narrowed_means : (schema : SchemaModel) (tables : ℕ → Rows) (v : Value) (n : Node) (column : ℕ) (leaves rest : List Leaf) → leaves ≡ leaves_of schema n column ++ rest → mean tables (narrowed v n leaves) ≡ mean_at schema tables v n column

@@ -8,9 +8,9 @@ use Rattle.pdn_base.specs.declared.value.Value.{Value}
 use Rattle.pdn_base.specs.Operators.{Rows, SameRows}
 use Rattle.pdn_schema.specs.Models.{SchemaModel}
 use Rattle.pdn_schema.specs.Rows.{union}
-use Rattle.pdn_plan.specs.declared.node.Node.{Node}
-use Rattle.pdn_plan.specs.Meaning.{mean}
-use Rattle.pdn_plan.specs.Shapes.{kinds}
+use Rattle.pdn_tree.specs.declared.node.Node.{Node}
+use Rattle.pdn_tree.specs.Meaning.{mean}
+use Rattle.pdn_tree.specs.Shapes.{kinds}
 use Rattle.pdn_circuit.specs.Gates.{InputWords, values, output_words}
 use Rattle.pdn_circuit.specs.Building.{constants}
 use Rattle.pdn_circuit.proofs.PlainLaws.{Satisfies-append, values_satisfy}

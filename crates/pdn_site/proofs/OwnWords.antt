@@ -7,13 +7,13 @@ use Rattle.pdn_base.specs.declared.value.Value.{Value}
 use Rattle.pdn_base.specs.declared.cond.Cmp.{Cmp}
 use Rattle.pdn_base.specs.Operators.{Rows, filter_rows, project_rows, join_rows, group_rows, count_rows, distinct_rows, number_rows, top_rows}
 use Rattle.pdn_schema.specs.Models.{SchemaModel}
-use Rattle.pdn_plan.specs.declared.node.Node.{Node, Node-F, fold-roll-Node, roll-Node}
-use Rattle.pdn_plan.specs.declared.node.Node.TheFolds.{ind-Node, map-Node}
-use Rattle.pdn_plan.specs.declared.node.Node.TheVariants as node
-use Rattle.pdn_plan.specs.declared.node.Node.TheVariants.{rolls-Scan, rolls-Filter, rolls-Project, rolls-Join, rolls-Group, rolls-Count, rolls-Distinct, rolls-Number, rolls-Top}
-use Rattle.pdn_plan.specs.Meaning.{mean}
-use Rattle.pdn_plan.specs.Meaning.{table_of as rows_of}
-use Rattle.pdn_plan.specs.Shapes.{Shape, shape, shape_step, kinds, kind_at}
+use Rattle.pdn_tree.specs.declared.node.Node.{Node, Node-F, fold-roll-Node, roll-Node}
+use Rattle.pdn_tree.specs.declared.node.Node.TheFolds.{ind-Node, map-Node}
+use Rattle.pdn_tree.specs.declared.node.Node.TheVariants as node
+use Rattle.pdn_tree.specs.declared.node.Node.TheVariants.{rolls-Scan, rolls-Filter, rolls-Project, rolls-Join, rolls-Group, rolls-Count, rolls-Distinct, rolls-Number, rolls-Top}
+use Rattle.pdn_tree.specs.Meaning.{mean}
+use Rattle.pdn_tree.specs.Meaning.{table_of as rows_of}
+use Rattle.pdn_tree.specs.Shapes.{Shape, shape, shape_step, kinds, kind_at}
 use Rattle.pdn_level.specs.declared.staged.Leaf.{Leaf}
 use Rattle.pdn_level.specs.Links.{link_at}
 use Rattle.pdn_level.specs.Slices.{Followed, followed, followed_step, slice_step}

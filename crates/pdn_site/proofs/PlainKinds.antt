@@ -6,12 +6,12 @@ use Rattle.pdn_base.specs.declared.value.Value.{Value}
 use Rattle.pdn_base.specs.Values.{cell}
 use Rattle.pdn_base.specs.Operators.{Rows}
 use Rattle.pdn_schema.specs.Models.{SchemaModel}
-use Rattle.pdn_plan.specs.declared.node.Node.{Node, Node-F, roll-Node, fold-roll-Node}
-use Rattle.pdn_plan.specs.declared.node.Node.TheFolds.{ind-Node, map-Node}
-use Rattle.pdn_plan.specs.Meaning.{mean_step}
-use Rattle.pdn_plan.specs.Meaning.{table_of as rows_of}
-use Rattle.pdn_plan.specs.Columns.{has}
-use Rattle.pdn_plan.specs.Shapes.{Shape, shape, shape_step, kinds}
+use Rattle.pdn_tree.specs.declared.node.Node.{Node, Node-F, roll-Node, fold-roll-Node}
+use Rattle.pdn_tree.specs.declared.node.Node.TheFolds.{ind-Node, map-Node}
+use Rattle.pdn_tree.specs.Meaning.{mean_step}
+use Rattle.pdn_tree.specs.Meaning.{table_of as rows_of}
+use Rattle.pdn_tree.specs.Columns.{has}
+use Rattle.pdn_tree.specs.Shapes.{Shape, shape, shape_step, kinds}
 use Rattle.pdn_obl_rows.specs.Encoding.{RowIsOf, RowsAreOf}
 use Rattle.pdn_level.specs.Links.{slice_at, links, names_column, link_at}
 use Rattle.pdn_level.specs.Slices.{Followed, followed, followed_step, slices}

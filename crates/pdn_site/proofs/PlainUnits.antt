@@ -7,10 +7,10 @@ use Rattle.pdn_base.specs.Values.{cell}
 use Rattle.pdn_base.specs.Operators.{Rows}
 use Rattle.pdn_schema.specs.Models.{SchemaModel}
 use Rattle.pdn_schema.specs.Rows.{union}
-use Rattle.pdn_plan.specs.declared.node.Node.{Node, Node-F, fold-roll-Node}
-use Rattle.pdn_plan.specs.declared.node.Node.TheFolds.{ind-Node, map-Node}
-use Rattle.pdn_plan.specs.Meaning.{mean_step}
-use Rattle.pdn_plan.specs.Meaning.{table_of as rows_of}
+use Rattle.pdn_tree.specs.declared.node.Node.{Node, Node-F, fold-roll-Node}
+use Rattle.pdn_tree.specs.declared.node.Node.TheFolds.{ind-Node, map-Node}
+use Rattle.pdn_tree.specs.Meaning.{mean_step}
+use Rattle.pdn_tree.specs.Meaning.{table_of as rows_of}
 use Rattle.pdn_level.specs.declared.staged.Leaf.{Leaf}
 use Rattle.pdn_level.specs.Links.{link_at}
 use Rattle.pdn_level.specs.Slices.{Followed, followed, followed_step}

@@ -5,7 +5,7 @@ use Rattle.std.proofs.lemmas.List.{get_or_at}
 use Rattle.pdn_base.specs.declared.value.Value.{Value}
 use Rattle.pdn_base.specs.Operators.{Rows}
 use Rattle.pdn_schema.specs.Models.{SchemaModel}
-use Rattle.pdn_plan.specs.declared.node.Node.{Node}
+use Rattle.pdn_tree.specs.declared.node.Node.{Node}
 use Rattle.pdn_level.specs.Cutting.{slice_column}
 use Rattle.pdn_site.specs.declared.unit.UnitKind.{UnitKind}
 use Rattle.pdn_site.specs.declared.unit.UnitKind.TheVariants.{Plain, Secure, Root}

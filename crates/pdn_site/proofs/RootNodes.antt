@@ -7,10 +7,10 @@ use Rattle.pdn_base.specs.declared.value.Value.{Value}
 use Rattle.pdn_base.specs.Operators.{Rows}
 use Rattle.pdn_schema.specs.Models.{SchemaModel}
 use Rattle.pdn_schema.specs.Rows.{union}
-use Rattle.pdn_plan.specs.declared.node.Node.{Node, Node-F}
-use Rattle.pdn_plan.specs.declared.node.Node.TheFolds.{map-Node}
-use Rattle.pdn_plan.specs.Meaning.{mean, mean_step}
-use Rattle.pdn_plan.specs.Shapes.{Shape, shape_step, kinds}
+use Rattle.pdn_tree.specs.declared.node.Node.{Node, Node-F}
+use Rattle.pdn_tree.specs.declared.node.Node.TheFolds.{map-Node}
+use Rattle.pdn_tree.specs.Meaning.{mean, mean_step}
+use Rattle.pdn_tree.specs.Shapes.{Shape, shape_step, kinds}
 use Rattle.pdn_circuit.specs.Gates.{InputWords}
 use Rattle.pdn_circuit.specs.Plain.{Ends}
 use Rattle.pdn_obl_rows.specs.Lists.{PaddedList}

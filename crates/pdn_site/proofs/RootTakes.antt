@@ -10,12 +10,12 @@ use Rattle.pdn_base.specs.declared.value.Value.{Value}
 use Rattle.pdn_base.specs.declared.cond.Cmp.{Cmp}
 use Rattle.pdn_base.specs.Operators.{Rows, listed}
 use Rattle.pdn_schema.specs.Models.{SchemaModel, table_of}
-use Rattle.pdn_plan.specs.declared.node.Node.{Node, Node-F, fold-Node, roll-Node, fold-roll-Node}
-use Rattle.pdn_plan.specs.declared.node.Node.TheFolds.{ind-Node, map-Node}
-use Rattle.pdn_plan.specs.declared.node.Node.TheVariants.{rolls-Scan, rolls-Filter, rolls-Project, rolls-Join, rolls-Group, rolls-Count, rolls-Distinct, rolls-Number, rolls-Top}
-use Rattle.pdn_plan.specs.declared.node.Node.TheVariants as node
-use Rattle.pdn_plan.specs.Meaning.{table_of as rows_of}
-use Rattle.pdn_plan.specs.Shapes.{Shape, shape_step, kinds, kind_at}
+use Rattle.pdn_tree.specs.declared.node.Node.{Node, Node-F, fold-Node, roll-Node, fold-roll-Node}
+use Rattle.pdn_tree.specs.declared.node.Node.TheFolds.{ind-Node, map-Node}
+use Rattle.pdn_tree.specs.declared.node.Node.TheVariants.{rolls-Scan, rolls-Filter, rolls-Project, rolls-Join, rolls-Group, rolls-Count, rolls-Distinct, rolls-Number, rolls-Top}
+use Rattle.pdn_tree.specs.declared.node.Node.TheVariants as node
+use Rattle.pdn_tree.specs.Meaning.{table_of as rows_of}
+use Rattle.pdn_tree.specs.Shapes.{Shape, shape_step, kinds, kind_at}
 use Rattle.pdn_circuit.specs.Gates.{InputWords, values}
 use Rattle.pdn_circuit.specs.Blocks.{Making, gives}
 use Rattle.pdn_obl_rows.specs.Lists.{PaddedList, widths, words_for}

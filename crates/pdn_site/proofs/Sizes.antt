@@ -2,9 +2,9 @@
 use Rattle.std.proofs.Common.{◌≡◌, ℕ, ◌+◌, ◌<◌, List, Option, sym, ap, ◌∙◌, arith}
 use Rattle.pdn_base.specs.declared.cond.Cmp.{Cmp}
 use Rattle.pdn_base.specs.declared.order.Key.{Key}
-use Rattle.pdn_plan.specs.declared.node.Node.{Node, Node-F, fold-Node, fold-roll-Node}
-use Rattle.pdn_plan.specs.declared.node.Node.TheVariants as node
-use Rattle.pdn_plan.specs.declared.node.Node.TheVariants.{rolls-Filter, rolls-Project, rolls-Join, rolls-Group, rolls-Count, rolls-Distinct, rolls-Number, rolls-Top}
+use Rattle.pdn_tree.specs.declared.node.Node.{Node, Node-F, fold-Node, fold-roll-Node}
+use Rattle.pdn_tree.specs.declared.node.Node.TheVariants as node
+use Rattle.pdn_tree.specs.declared.node.Node.TheVariants.{rolls-Filter, rolls-Project, rolls-Join, rolls-Group, rolls-Count, rolls-Distinct, rolls-Number, rolls-Top}
 
 abbrev pub size_step : Node-F ℕ → ℕ
 size_step (Node-F.Scan table) = 1

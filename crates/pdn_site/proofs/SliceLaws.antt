@@ -4,14 +4,14 @@ use Rattle.std.specs.List.{AllByRecursion}
 use Rattle.pdn_base.specs.declared.value.Value.{Value}
 use Rattle.pdn_base.specs.Operators.{SameRows, listed}
 use Rattle.pdn_base.proofs.Listing.{top_bag}
-use Rattle.pdn_plan.specs.declared.node.Node.{Node, Node-F, fold-roll-Node}
-use Rattle.pdn_plan.specs.declared.node.Node.TheFolds.{ind-Node, map-Node}
+use Rattle.pdn_tree.specs.declared.node.Node.{Node, Node-F, fold-roll-Node}
+use Rattle.pdn_tree.specs.declared.node.Node.TheFolds.{ind-Node, map-Node}
 use Rattle.std.proofs.lemmas.Bool.{false≢true}
 use Rattle.pdn_schema.specs.Models.{SchemaModel}
 use Rattle.pdn_level.specs.declared.staged.Level.TheVariants as level
 use Rattle.pdn_site.specs.Entering.{is_local, local_step, entered_words}
 use Rattle.pdn_site.proofs.OwnWords.{entered_own}
-use Rattle.pdn_plan.specs.Meaning.{Rows, mean, table_of}
+use Rattle.pdn_tree.specs.Meaning.{Rows, mean, table_of}
 use Rattle.pdn_level.specs.declared.staged.Leaf.{Leaf}
 use Rattle.pdn_level.specs.Models.{SegmentModel}
 use Rattle.pdn_level.specs.Slices.{followed_step}

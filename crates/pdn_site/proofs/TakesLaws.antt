@@ -8,9 +8,9 @@ use Rattle.pdn_base.specs.declared.site.Site.TheVariants.{A, B}
 use Rattle.pdn_base.specs.declared.value.Value.{Value}
 use Rattle.pdn_base.specs.Operators.{Rows, listed}
 use Rattle.pdn_schema.specs.Models.{SchemaModel}
-use Rattle.pdn_plan.specs.declared.node.Node.{Node, Node-F, fold-roll-Node}
-use Rattle.pdn_plan.specs.declared.node.Node.TheFolds.{ind-Node, map-Node}
-use Rattle.pdn_plan.specs.Shapes.{kind_at}
+use Rattle.pdn_tree.specs.declared.node.Node.{Node, Node-F, fold-roll-Node}
+use Rattle.pdn_tree.specs.declared.node.Node.TheFolds.{ind-Node, map-Node}
+use Rattle.pdn_tree.specs.Shapes.{kind_at}
 use Rattle.pdn_circuit.specs.declared.gate.Gate.{Gate}
 use Rattle.pdn_circuit.specs.declared.gate.Gate.TheVariants.{Input, Given}
 use Rattle.pdn_circuit.specs.Gates.{is_input_of, is_given, input_count, given_count, InputWords, HasCounts}

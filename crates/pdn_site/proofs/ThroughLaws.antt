@@ -4,10 +4,10 @@ use Rattle.std.proofs.Common.{◌≡◌, ℕ, ◌+◌, ◌<◌, Bool, List, [], 
 use Rattle.pdn_base.specs.declared.cond.Cmp.{Cmp}
 use Rattle.pdn_base.specs.declared.value.Value.{Value}
 use Rattle.pdn_schema.specs.Models.{SchemaModel}
-use Rattle.pdn_plan.specs.declared.node.Node.{Node, Node-F, fold-roll-Node}
-use Rattle.pdn_plan.specs.declared.node.Node.TheFolds.{ind-Node, map-Node}
-use Rattle.pdn_plan.specs.declared.node.Node.TheVariants as node
-use Rattle.pdn_plan.specs.declared.node.Node.TheVariants.{rolls-Join}
+use Rattle.pdn_tree.specs.declared.node.Node.{Node, Node-F, fold-roll-Node}
+use Rattle.pdn_tree.specs.declared.node.Node.TheFolds.{ind-Node, map-Node}
+use Rattle.pdn_tree.specs.declared.node.Node.TheVariants as node
+use Rattle.pdn_tree.specs.declared.node.Node.TheVariants.{rolls-Join}
 use Rattle.pdn_level.specs.declared.staged.Leaf.{Leaf}
 use Rattle.pdn_level.specs.Links.{link_at}
 use Rattle.pdn_level.specs.Slices.{Followed, followed, followed_step, slice_step}

@@ -16,12 +16,12 @@ use Rattle.pdn_base.specs.Operators.{Rows, filter_rows, project_rows, group_rows
 use Rattle.pdn_base.proofs.RowLaws.{value_cmp-ties, is_eq-tie}
 use Rattle.pdn_schema.specs.Models.{SchemaModel}
 use Rattle.pdn_schema.specs.Rows.{union}
-use Rattle.pdn_plan.specs.declared.node.Node.{Node, Node-F, roll-Node, fold-roll-Node}
-use Rattle.pdn_plan.specs.declared.node.Node.TheFolds.{ind-Node, map-Node}
-use Rattle.pdn_plan.specs.Meaning.{mean_step}
-use Rattle.pdn_plan.specs.Meaning.{table_of as rows_of}
-use Rattle.pdn_plan.specs.Columns.{has}
-use Rattle.pdn_plan.specs.Shapes.{is_public, Shape, shape, shape_step, kinds, kind_at, table_columns}
+use Rattle.pdn_tree.specs.declared.node.Node.{Node, Node-F, roll-Node, fold-roll-Node}
+use Rattle.pdn_tree.specs.declared.node.Node.TheFolds.{ind-Node, map-Node}
+use Rattle.pdn_tree.specs.Meaning.{mean_step}
+use Rattle.pdn_tree.specs.Meaning.{table_of as rows_of}
+use Rattle.pdn_tree.specs.Columns.{has}
+use Rattle.pdn_tree.specs.Shapes.{is_public, Shape, shape, shape_step, kinds, kind_at, table_columns}
 use Rattle.pdn_circuit.specs.Gates.{InputWords}
 use Rattle.pdn_circuit.specs.Plain.{Yields, Ends}
 use Rattle.pdn_circuit.proofs.PlainLaws.{yields-gives}

@@ -8,9 +8,9 @@ use Rattle.pdn_base.proofs.BagLaws.{Perm-from_bag, SameBag-sym}
 use Rattle.pdn_base.proofs.RowLaws.{same_row-tests}
 use Rattle.pdn_schema.specs.Models.{SchemaModel}
 use Rattle.pdn_schema.specs.Rows.{union}
-use Rattle.pdn_plan.specs.declared.node.Node.{Node-F}
-use Rattle.pdn_plan.specs.declared.node.Node.TheFolds.{map-Node}
-use Rattle.pdn_plan.specs.Meaning.{mean_step}
+use Rattle.pdn_tree.specs.declared.node.Node.{Node-F}
+use Rattle.pdn_tree.specs.declared.node.Node.TheFolds.{map-Node}
+use Rattle.pdn_tree.specs.Meaning.{mean_step}
 use Rattle.pdn_circuit.specs.Gates.{InputWords}
 use Rattle.pdn_circuit.specs.Blocks.{Making}
 use Rattle.pdn_circuit.specs.Plain.{Yields, Ends}

@@ -8,10 +8,10 @@ use Rattle.pdn_base.specs.declared.site.Site.{Site}
 use Rattle.pdn_base.specs.declared.value.Value.{Value}
 use Rattle.pdn_base.specs.Operators.{Rows, SameRows}
 use Rattle.pdn_schema.specs.Models.{SchemaModel}
-use Rattle.pdn_plan.specs.declared.node.Node.{Node}
-use Rattle.pdn_plan.specs.Meaning.{mean}
-use Rattle.pdn_plan.specs.Meaning.{table_of as rows_of}
-use Rattle.pdn_plan.specs.Shapes.{kinds}
+use Rattle.pdn_tree.specs.declared.node.Node.{Node}
+use Rattle.pdn_tree.specs.Meaning.{mean}
+use Rattle.pdn_tree.specs.Meaning.{table_of as rows_of}
+use Rattle.pdn_tree.specs.Shapes.{kinds}
 use Rattle.pdn_level.specs.declared.staged.Leaf.{Leaf}
 use Rattle.pdn_level.specs.Levels.{leaves_of}
 use Rattle.pdn_level.specs.Cutting.{slice_column}

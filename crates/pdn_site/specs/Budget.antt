@@ -4,12 +4,11 @@ use Rattle.std.specs.List.{flat_map}
 use Rattle.pdn_base.specs.declared.value.Value.{Value}
 use Rattle.pdn_schema.specs.Models.{SchemaModel}
 use Rattle.pdn_circuit.specs.declared.gate.Gate.{Gate}
-use Rattle.pdn_circuit.specs.declared.gate.Gate.TheVariants.{Input, Given, Const, Xor, And, Spread, Move}
 use Rattle.pdn_circuit.specs.declared.tally.BuildErr.{BuildErr}
 use Rattle.pdn_circuit.specs.declared.tally.BuildErr.TheVariants as build
 use Rattle.pdn_circuit.specs.Gates.{Net}
 use Rattle.pdn_circuit.specs.Building.{Made, Starts, first_over, and_count}
-use Rattle.pdn_plan.specs.declared.node.Node.{Node}
+use Rattle.pdn_tree.specs.declared.node.Node.{Node}
 use Rattle.pdn_level.specs.declared.staged.Leaf.{Leaf}
 use Rattle.pdn_level.specs.Models.{SegmentModel}
 use Rattle.pdn_site.specs.declared.budget.Left.{Left}
@@ -50,15 +49,6 @@ abbrev pub all_of : List (List Shape) → List Shape
 all_of below = flat_map (λ shapes. shapes) below
 
 -- ---- what is left of the limits
-
-abbrev pub is_and : Gate → Bool
-is_and (And a b) = true
-is_and (Input site index) = false
-is_and (Given index) = false
-is_and (Const word) = false
-is_and (Xor a b) = false
-is_and (Spread a lane) = false
-is_and (Move a from count to) = false
 
 -- what is left after a unit with these gates
 abbrev pub spent : Left → List Gate → Left

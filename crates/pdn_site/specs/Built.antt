@@ -11,7 +11,7 @@ use Rattle.pdn_circuit.specs.Building.{Made, Makes, Stops}
 use Rattle.pdn_obl_rows.specs.Lists.{PaddedList, IsShaped}
 use Rattle.pdn_schema.specs.Models.{SchemaModel}
 use Rattle.pdn_base.specs.declared.value.Value.{Value}
-use Rattle.pdn_plan.specs.declared.node.Node.{Node, fold-Node}
+use Rattle.pdn_tree.specs.declared.node.Node.{Node, fold-Node}
 use Rattle.pdn_level.specs.declared.staged.Leaf.{Leaf}
 use Rattle.pdn_site.specs.Laying.{Taken, Laying}
 use Rattle.pdn_site.specs.Circuits.{Part, Laid, laid_leaf, laid_step, Rooted, root_step}

@@ -14,10 +14,10 @@ use Rattle.pdn_obl_rows.specs.Operators.{filter_gates, projected, append_gates, 
 use Rattle.pdn_obl_group.specs.Operators.{distinct_gates, group_gates, count_gates, cut_distinct_gates, cut_group_gates}
 use Rattle.pdn_obl_rank.specs.Numbers.{number_gates}
 use Rattle.pdn_obl_rank.specs.Tops.{top_gates}
-use Rattle.pdn_plan.specs.declared.node.Node.{Node, fold-Node}
-use Rattle.pdn_plan.specs.declared.node.Node.TheVariants as node
-use Rattle.pdn_plan.specs.declared.node.Node.TheOpen.{Node-F}
-use Rattle.pdn_plan.specs.Shapes.{table_columns, kind_at}
+use Rattle.pdn_tree.specs.declared.node.Node.{Node, fold-Node}
+use Rattle.pdn_tree.specs.declared.node.Node.TheVariants as node
+use Rattle.pdn_tree.specs.declared.node.Node.TheOpen.{Node-F}
+use Rattle.pdn_tree.specs.Shapes.{table_columns, kind_at}
 use Rattle.pdn_level.specs.declared.staged.Level.{Level}
 use Rattle.pdn_level.specs.declared.staged.Level.TheVariants as level
 use Rattle.pdn_level.specs.Links.{slice_at}

@@ -7,9 +7,9 @@ use Rattle.pdn_circuit.specs.declared.gate.Gate.{Gate}
 use Rattle.pdn_circuit.specs.Gates.{Net}
 use Rattle.pdn_circuit.specs.Building.{first_over, and_count}
 use Rattle.pdn_obl_rows.specs.Lists.{PaddedList}
-use Rattle.pdn_plan.specs.declared.node.Node.{Node, fold-Node, out-Node}
-use Rattle.pdn_plan.specs.declared.node.Node.TheVariants as node
-use Rattle.pdn_plan.specs.declared.node.Node.TheOpen.{Node-F}
+use Rattle.pdn_tree.specs.declared.node.Node.{Node, fold-Node, out-Node}
+use Rattle.pdn_tree.specs.declared.node.Node.TheVariants as node
+use Rattle.pdn_tree.specs.declared.node.Node.TheOpen.{Node-F}
 use Rattle.pdn_level.specs.declared.staged.Level.{Level}
 use Rattle.pdn_level.specs.declared.staged.Level.TheVariants as level
 use Rattle.pdn_level.specs.Models.{SegmentModel}

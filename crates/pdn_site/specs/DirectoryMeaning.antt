@@ -6,15 +6,15 @@ use Rattle.pdn_base.specs.declared.value.Value.{Value}
 use Rattle.pdn_base.specs.Operators.{Rows}
 use Rattle.pdn_schema.specs.Models.{SchemaModel}
 use Rattle.pdn_schema.specs.Rows.{union}
-use Rattle.pdn_plan.specs.declared.node.Node.{Node}
-use Rattle.pdn_plan.specs.Meaning.{mean}
+use Rattle.pdn_tree.specs.declared.node.Node.{Node}
+use Rattle.pdn_tree.specs.Meaning.{mean}
 use Rattle.pdn_circuit.specs.Gates.{InputWords}
 use Rattle.pdn_circuit.specs.Plain.{Yields, Ends}
 use Rattle.pdn_obl_rows.specs.Lists.{PaddedList}
 use Rattle.pdn_obl_rows.specs.Encoding.{Stand}
 use Rattle.pdn_site.specs.Laying.{Taken, nothing}
 use Rattle.pdn_site.specs.Circuits.{unit_list, root_list}
-use Rattle.pdn_plan.specs.Shapes.{kinds, shape}
+use Rattle.pdn_tree.specs.Shapes.{kinds, shape}
 use Rattle.pdn_level.specs.Links.{slice_at}
 use Rattle.pdn_level.specs.Slices.{slices}
 use Rattle.pdn_level.specs.Models.{SegmentModel}

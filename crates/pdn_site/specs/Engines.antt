@@ -7,7 +7,7 @@ use Rattle.pdn_base.specs.declared.value.Value.TheVariants as value
 use Rattle.pdn_base.specs.Operators.{Rows, listed}
 use Rattle.pdn_schema.specs.Models.{SchemaModel, table_of}
 use Rattle.pdn_schema.specs.Rows.{IsValid, IsRefused, AreValid}
-use Rattle.pdn_plan.specs.declared.node.Node.{Node}
+use Rattle.pdn_tree.specs.declared.node.Node.{Node}
 use Rattle.pdn_level.specs.Models.{SegmentModel}
 use Rattle.pdn_level.specs.Levels.{segments_of}
 use Rattle.pdn_level.specs.Cutting.{slice_column}

@@ -1,8 +1,8 @@
 -- The lists of a unit: how long each is, and how long the longest.
 use Rattle.std.specs.Prelude.{ℕ, max}
 use Rattle.pdn_schema.specs.Models.{SchemaModel}
-use Rattle.pdn_plan.specs.declared.node.Node.{Node}
-use Rattle.pdn_plan.specs.declared.node.Node.TheOpen.{Node-F}
+use Rattle.pdn_tree.specs.declared.node.Node.{Node}
+use Rattle.pdn_tree.specs.declared.node.Node.TheOpen.{Node-F}
 use Rattle.pdn_level.specs.Padding.{Padding, leaf_padding, padding_step}
 use Rattle.pdn_level.specs.Slices.{followed}
 

@@ -9,13 +9,13 @@ use Rattle.pdn_base.specs.declared.cond.Cmp.{Cmp}
 use Rattle.pdn_base.specs.declared.value.Value.{Value}
 use Rattle.pdn_schema.specs.Models.{SchemaModel}
 use Rattle.pdn_schema.specs.Rows.{AreValid, union}
-use Rattle.pdn_plan.specs.Meaning.{table_of as rows_of}
-use Rattle.pdn_plan.specs.Shapes.{kinds, shape}
+use Rattle.pdn_tree.specs.Meaning.{table_of as rows_of}
+use Rattle.pdn_tree.specs.Shapes.{kinds, shape}
 use Rattle.pdn_level.specs.Links.{slice_at}
 use Rattle.pdn_level.specs.Slices.{slices}
 use Rattle.pdn_level.specs.Cutting.{mean_at}
-use Rattle.pdn_plan.specs.declared.node.Node.{Node, fold-Node}
-use Rattle.pdn_plan.specs.declared.node.Node.TheOpen.{Node-F}
+use Rattle.pdn_tree.specs.declared.node.Node.{Node, fold-Node}
+use Rattle.pdn_tree.specs.declared.node.Node.TheOpen.{Node-F}
 use Rattle.pdn_base.specs.Operators.{Rows, SameRows}
 use Rattle.pdn_circuit.specs.Gates.{InputWords}
 use Rattle.pdn_circuit.specs.Plain.{Yields, Ends}

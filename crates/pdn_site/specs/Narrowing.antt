@@ -6,9 +6,9 @@ use Rattle.pdn_base.specs.declared.cond.Op.TheVariants as op
 use Rattle.pdn_base.specs.declared.cond.Operand.{Operand}
 use Rattle.pdn_base.specs.declared.cond.Operand.TheVariants as operand
 use Rattle.pdn_base.specs.declared.cond.Cmp.{Cmp}
-use Rattle.pdn_plan.specs.declared.node.Node.{Node, fold-Node}
-use Rattle.pdn_plan.specs.declared.node.Node.TheVariants as node
-use Rattle.pdn_plan.specs.declared.node.Node.TheOpen.{Node-F}
+use Rattle.pdn_tree.specs.declared.node.Node.{Node, fold-Node}
+use Rattle.pdn_tree.specs.declared.node.Node.TheVariants as node
+use Rattle.pdn_tree.specs.declared.node.Node.TheOpen.{Node-F}
 use Rattle.pdn_level.specs.declared.staged.Leaf.{Leaf}
 
 abbrev pub constant : Value → Operand

@@ -4,15 +4,15 @@ use Rattle.std.specs.List.{flat_map, range_with_len}
 use Rattle.pdn_base.specs.declared.site.Site.{Site}
 use Rattle.pdn_base.specs.Operators.{Rows}
 use Rattle.pdn_schema.specs.Models.{SchemaModel, table_of}
-use Rattle.pdn_plan.specs.declared.node.Node.{Node, fold-Node}
-use Rattle.pdn_plan.specs.declared.node.Node.TheOpen.{Node-F}
+use Rattle.pdn_tree.specs.declared.node.Node.{Node, fold-Node}
+use Rattle.pdn_tree.specs.declared.node.Node.TheOpen.{Node-F}
 use Rattle.pdn_level.specs.Models.{SegmentModel}
 use Rattle.pdn_level.specs.Levels.{segments_of}
 use Rattle.pdn_site.specs.declared.unit.UnitKind.{UnitKind}
 use Rattle.pdn_site.specs.declared.unit.UnitKind.TheVariants.{Plain, Secure, Root}
 use Rattle.pdn_site.specs.Models.{UnitModel}
 use Rattle.pdn_site.specs.SiteRows.{Slice, slice_words, OwnRoot, RootRows, root_words_step, root_words}
-use Rattle.pdn_plan.specs.Shapes.{shape}
+use Rattle.pdn_tree.specs.Shapes.{shape}
 use Rattle.pdn_site.specs.Compiling.{compiled}
 use Rattle.pdn_site.specs.Meaning.{numbers_fit}
 use Rattle.pdn_site.specs.NetMeaning.{slices_of, site_dirs}

@@ -3,8 +3,8 @@ use Rattle.std.specs.Prelude.{◌≡◌, true, List}
 use Rattle.pdn_base.specs.declared.value.Value.{Value}
 use Rattle.pdn_base.specs.Operators.{Rows}
 use Rattle.pdn_schema.specs.Models.{SchemaModel}
-use Rattle.pdn_plan.specs.declared.node.Node.{Node}
-use Rattle.pdn_plan.specs.Shapes.{shape}
+use Rattle.pdn_tree.specs.declared.node.Node.{Node}
+use Rattle.pdn_tree.specs.Shapes.{shape}
 use Rattle.pdn_circuit.specs.Gates.{HasCounts}
 use Rattle.pdn_site.specs.Meaning.{AreTables, numbers_fit}
 use Rattle.pdn_site.specs.RootMeaning.{segment_tops}

@@ -5,7 +5,8 @@ ghost use Rattle.pdn_circuit.specs.declared.tally.BuildErr.TheVariants as build;
 ghost use Rattle.pdn_obl_rows.specs.Operators.{IsThere};
 ghost use Rattle.pdn_site.specs.Circuits.{list_gates, net_of, root_list};
 ghost use Rattle.pdn_site.specs.Built.{laid_through};
-ghost use Rattle.pdn_site.specs.Budget.{Begins, MakesNet, is_and, spent};
+ghost use Rattle.pdn_circuit.specs.Gates.{is_and};
+ghost use Rattle.pdn_site.specs.Budget.{Begins, MakesNet, spent};
 
 use crate::outputs::list_gates;
 use crate::root_lengths::Parts;
@@ -15,8 +16,8 @@ use pdn_base::{Memory, Value};
 use pdn_circuit::{BuildErr, Builder, Circuit, Gate};
 use pdn_level::Leaf;
 use pdn_obl_rows::Padded;
-use pdn_plan::Node;
 use pdn_schema::Schema;
+use pdn_tree::Node;
 use std::alloc::Global;
 
 /// The most outputs of a circuit.

@@ -11,8 +11,8 @@ use crate::shaping::{parts_of, root_unit, segment_units};
 use crate::{CompileErr, PublicView, Unit, Units};
 use pdn_circuit::MOST_GATES;
 use pdn_level::Staged;
-use pdn_plan::{Node, Plan};
 use pdn_schema::Schema;
+use pdn_tree::{Node, Plan};
 use std::alloc::Global;
 use std::marker::Model;
 

@@ -13,7 +13,7 @@ ghost use Rattle.pdn_site.specs.declared.engine.SiteErr.TheVariants.{Memory};
 use crate::directories::directory;
 use crate::entering::entered_words;
 use crate::holding::tables_held;
-use crate::narrowing::{copy_tree, narrowed};
+use crate::narrowing::narrowed;
 use crate::numbers::numbers_held;
 use crate::root::tree_words;
 use crate::segments::node_at;
@@ -22,8 +22,8 @@ use crate::{Unit, UnitKind, Units};
 use pdn_base::{Memory, Rows, RowsErr, Site, Tables, Value, Word, sort_rows};
 use pdn_level::{Segment, Staged};
 use pdn_plain::run_local;
-use pdn_plan::{Node, Plan};
 use pdn_schema::{Schema, valid_rows};
+use pdn_tree::{Node, Plan};
 use std::alloc::Global;
 use std::marker::Model;
 
@@ -54,7 +54,7 @@ pub struct SiteEngine {
 
 impl Model for SiteEngine {
     ghost use Rattle.pdn_site.specs.Engines.{EngineModel, IsEngine};
-    ghost use Rattle.pdn_plan.specs.contracts.node.Node as tree;
+    ghost use Rattle.pdn_tree.specs.contracts.node.Node as tree;
     ghost use Rattle.std.specs.Coded.{codes};
 
     ghost Value = { EngineModel };
@@ -121,7 +121,7 @@ impl SiteEngine {
         tables_held(alloc, schema, &tables)?;
         numbers_held(&plan.root);
         let schema = schema.copy(alloc)?;
-        let root = copy_tree(alloc, &plan.root)?;
+        let root = plan.root.copy(alloc)?;
         let staged = staged.copy(alloc)?;
         Ok(SiteEngine {
             site,

@@ -1,8 +1,8 @@
 //! Rows as they enter a circuit.
 ghost use Rattle.std.specs.Prelude.{◌≡◌, ◌∷◌, ◌++◌, [], map, IfOk, OnOk};
 ghost use Rattle.pdn_base.specs.declared.marks.Kind.TheVariants as kind;
-ghost use Rattle.pdn_plan.specs.Meaning.{mean, table_of};
-ghost use Rattle.pdn_plan.specs.Shapes.{kind_at, kinds};
+ghost use Rattle.pdn_tree.specs.Meaning.{mean, table_of};
+ghost use Rattle.pdn_tree.specs.Shapes.{kind_at, kinds};
 ghost use Rattle.pdn_level.specs.Padding.{per_of};
 ghost use Rattle.pdn_site.specs.Circuits.{table_kinds};
 ghost use Rattle.pdn_site.specs.SiteRows.{entered};
@@ -14,8 +14,8 @@ use pdn_base::{Kind, Memory, Rows, Tables, Value, Word, sort_rows};
 use pdn_level::Leaf;
 use pdn_obl_rows::encode;
 use pdn_plain::run_local;
-use pdn_plan::Node;
 use pdn_schema::{Column, Schema};
+use pdn_tree::Node;
 use std::alloc::Global;
 
 /// Rows as they enter a circuit: in ascending order of all columns, from the first place on. Rows for which the list has no

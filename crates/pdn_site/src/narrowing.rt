@@ -1,31 +1,12 @@
 //! Trees whose leaves read only the rows that have a value in a column.
 ghost use Rattle.std.specs.Prelude.{◌≡◌, IfOk, drop};
-ghost use Rattle.pdn_plan.specs.declared.node.Node.TheVariants as node;
 ghost use Rattle.pdn_site.specs.Narrowing.{constant, has_value, narrowed_scan, scans, narrowed};
 
-use pdn_base::{Clause, Cmp, Cond, Key, Memory, Op, Operand, Term, Value};
+use pdn_base::{Clause, Cmp, Cond, Memory, Op, Operand, Term, Value};
 use pdn_level::Leaf;
-use pdn_plan::Node;
+use pdn_tree::{Node, copy_cond, make_group, make_join, make_number, make_top};
 use sqlite_items::{Boxed, Items};
 use std::alloc::Global;
-
-fn copy_clause(alloc: Global, clause: &Clause) -> Result<Clause, Memory>
-    ensures { IfOk result (λ copied. copied ≡ clause.now) }
-{
-    Ok(Clause {
-        any: Vec::from_slice(alloc, clause.any.as_slice())?,
-    })
-}
-
-fn copy_cond(alloc: Global, cond: &Cond) -> Result<Cond, Memory>
-    ensures { IfOk result (λ copied. copied ≡ cond.now) }
-{
-    let mut all = Vec::new(alloc);
-    for clause in &cond.all {
-        all.push(copy_clause(alloc, clause)?)?;
-    }
-    Ok(Cond { all })
-}
 
 fn constant(value: &Value) -> Operand
     ensures { result ≡ constant value.now }
@@ -112,52 +93,6 @@ pub fn after(leaves: &[Leaf], count: usize) -> &[Leaf]
     &leaves[first..]
 }
 
-fn make_join(alloc: Global, left: Node, right: Node, on: &Cond) -> Result<Node, Memory>
-    ensures { IfOk result (λ tree. tree ≡ node.Join left right on.now) }
-{
-    let left = Boxed::new(alloc, left)?;
-    let right = Boxed::new(alloc, right)?;
-    let on = copy_cond(alloc, on)?;
-    Ok(Node::Join { left, right, on })
-}
-
-fn make_group(alloc: Global, child: Node, keys: &[u32], having: Option<u32>) -> Result<Node, Memory>
-    ensures { IfOk result (λ tree. tree ≡ node.Group child keys.now having) }
-{
-    let child = Boxed::new(alloc, child)?;
-    let keys = Items::from_slice(alloc, keys)?;
-    Ok(Node::Group {
-        child,
-        keys,
-        having,
-    })
-}
-
-fn make_number(alloc: Global, child: Node, partition: &[u32], order: &[Key]) -> Result<Node, Memory>
-    ensures { IfOk result (λ tree. tree ≡ node.Number child partition.now order.now) }
-{
-    let child = Boxed::new(alloc, child)?;
-    let partition = Items::from_slice(alloc, partition)?;
-    let order = Items::from_slice(alloc, order)?;
-    Ok(Node::Number {
-        child,
-        partition,
-        order,
-    })
-}
-
-fn make_top(alloc: Global, child: Node, order: &[Key], limit: Option<u32>) -> Result<Node, Memory>
-    ensures { IfOk result (λ tree. tree ≡ node.Top child order.now limit) }
-{
-    let child = Boxed::new(alloc, child)?;
-    let order = Items::from_slice(alloc, order)?;
-    Ok(Node::Top {
-        child,
-        order,
-        limit,
-    })
-}
-
 /// The tree in which each Scan that has a leaf, left to right, gives only the rows with the value in the leaf's column. With
 /// no leaves it is an equal tree.
 pub fn narrowed(alloc: Global, node: &Node, leaves: &[Leaf], value: &Value) -> Result<Node, Memory>
@@ -218,11 +153,4 @@ pub fn narrowed(alloc: Global, node: &Node, leaves: &[Leaf], value: &Value) -> R
             make_top(alloc, child, order.as_slice(), *limit)
         }
     }
-}
-
-/// An equal tree.
-pub fn copy_tree(alloc: Global, node: &Node) -> Result<Node, Memory>
-    ensures { IfOk result (λ tree. tree ≡ node.now) }
-{
-    narrowed(alloc, node, &[], &Value::Int(0))
 }

@@ -4,7 +4,7 @@ ghost use Rattle.std.specs.List.{list_all};
 ghost use Rattle.pdn_site.specs.Meaning.{is_number, operand_number, cmp_numbers, cond_numbers, numbers_fit};
 
 use pdn_base::{Clause, Cmp, Cond, Operand};
-use pdn_plan::Node;
+use pdn_tree::Node;
 
 fn number_held(number: Option<u32>)
     ensures { is_number number ≡ true }

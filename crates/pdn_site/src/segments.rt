@@ -1,11 +1,11 @@
 //! The trees of segments.
 ghost use Rattle.std.specs.Prelude.{◌≡◌};
 ghost use Rattle.std.specs.Option.{option_copied};
-ghost use Rattle.pdn_plan.specs.declared.node.Node.{out-Node};
+ghost use Rattle.pdn_tree.specs.declared.node.Node.{out-Node};
 ghost use Rattle.pdn_level.specs.Cutting.{child_of};
 ghost use Rattle.pdn_site.specs.Compiling.{node_at};
 
-use pdn_plan::Node;
+use pdn_tree::Node;
 
 /// What a node reads at a step of the way down: 0 is the only or the left child, 1 the right one.
 fn child_of(node: &Node, way: u8) -> Option<&Node>

@@ -14,8 +14,8 @@ use crate::{CompileErr, SegDirs, Unit, UnitKind};
 use pdn_base::{Memory, Site, Value};
 use pdn_circuit::{BuildErr, Gate};
 use pdn_level::Leaf;
-use pdn_plan::Node;
 use pdn_schema::Schema;
+use pdn_tree::Node;
 use std::alloc::Global;
 use std::marker::Model;
 

@@ -1,35 +1,38 @@
-//! The ends over real files and writers, and the lines of refusals.
-use crate::{
-    FileErr, Files, Label, Name, RealFiles, RowsErr, Sink, SinkErr, Site, Status, StdSink, Who,
+//! Files and writers, real ones and those in memory, and the lines of refusals.
+use crate::texts::repeated;
+use pdn_base::{
+    FileErr, Files, Label, MemFiles, MemSink, Name, RealFiles, RowsErr, Sink, SinkErr, Site,
+    Status, StdSink, Who,
 };
 use std::fs::OpenFile;
-use std::io::Write;
+use std::io::{ErrorKind, Write};
 use std::test::Fail;
 use std::{fs, io};
 
 #[test]
 fn real_files_give_what_was_written(rt: HostRuntime) -> Result<(), Fail> {
-    fs::write(&rt, "there.txt", "5\n7\n")?;
+    let alloc = rt.alloc();
+    let long = repeated(String::new(alloc), "5,7,flu\n", 1_000)?;
+    fs::write(&rt, "long.txt", long.as_str())?;
     fs::create(&rt, "large.txt")?.set_len(536_870_913)?;
     let mut files = RealFiles::new(&rt);
-    assert_eq!(rt;
-        files.read(rt.alloc(), "there.txt")?.as_slice(),
-        b"5\n7\n".as_slice()
-    );
+    let whole = files.read(alloc, "long.txt")?;
+    assert_eq!(rt; whole.as_slice(), long.as_bytes());
     for (name, error) in [
         ("absent.txt", FileErr::Absent),
         (".", FileErr::Failed),
         ("large.txt", FileErr::Failed),
     ] {
-        assert_eq!(rt; files.read(rt.alloc(), name).err(), Some(error), "{name}");
+        assert_eq!(rt; files.read(alloc, name).err(), Some(error), "{name}");
     }
     Ok(())
 }
 
-// A writer that takes a byte a call, and at most so many.
+/// A writer that takes a byte a call, at most so many in all, and is flushed or not.
 #[derive(Drop)]
 struct Narrow {
     left: usize,
+    flushes: bool,
 }
 
 impl Write for Narrow {
@@ -40,16 +43,54 @@ impl Write for Narrow {
     }
 
     fn flush(&mut self) -> io::Result<()> {
-        Ok(())
+        if self.flushes {
+            Ok(())
+        } else {
+            Err(io::Error::from(ErrorKind::Other))
+        }
     }
 }
 
 #[test]
-fn a_write_that_takes_nothing_is_a_fault(rt: HostRuntime) {
-    let mut sink = StdSink::new(Narrow { left: 3 });
+fn a_writer_that_takes_nothing_or_is_not_flushed_is_a_fault(rt: HostRuntime) {
+    let mut sink = StdSink::new(Narrow {
+        left: 3,
+        flushes: true,
+    });
     assert_eq!(rt; sink.put(b"ab"), Ok(()));
     assert_eq!(rt; sink.put(b"cd"), Err(SinkErr::Failed));
     assert_eq!(rt; sink.put(b""), Ok(()));
+    let mut sink = StdSink::new(Narrow {
+        left: 3,
+        flushes: false,
+    });
+    assert_eq!(rt; sink.put(b"ab"), Err(SinkErr::Failed));
+}
+
+#[test]
+fn files_and_a_sink_in_memory_fail_at_the_calls_that_are_listed(
+    rt: HostRuntime,
+) -> Result<(), Fail> {
+    let alloc = rt.alloc();
+    let file = (
+        String::from_str(alloc, "a")?,
+        Vec::from_slice(alloc, b"5\n")?,
+    );
+    let mut files = MemFiles::new(vec![in alloc; file]?, vec![in alloc; 2]?);
+    assert_eq!(rt; files.read(alloc, "a")?.as_slice(), b"5\n".as_slice());
+    assert_eq!(rt; files.read(alloc, "a").err(), Some(FileErr::Failed));
+    assert_eq!(rt; files.read(alloc, "b").err(), Some(FileErr::Absent));
+    let mut sink = MemSink::new(alloc, 4, vec![in alloc; 2]?)?;
+    for (bytes, answer, held) in [
+        (b"ab".as_slice(), Ok(()), b"ab".as_slice()),
+        (b"c", Err(SinkErr::Failed), b"ab"),
+        (b"cde", Err(SinkErr::Failed), b"abcd"),
+        (b"", Ok(()), b"abcd"),
+    ] {
+        assert_eq!(rt; sink.put(bytes), answer);
+        assert_eq!(rt; sink.bytes(), held);
+    }
+    Ok(())
 }
 
 #[test]
@@ -133,6 +174,8 @@ fn each_refusal_has_its_line(rt: HostRuntime) -> Result<(), Fail> {
     for (status, want) in &statuses {
         let line = status.line(alloc, "diag", "pid")?;
         assert_eq!(rt; line.as_str(), *want);
+        let head = format!(in alloc; "refused {} ", status.code())?;
+        assert!(rt; want.starts_with(head.as_str()), "{want}");
     }
     Ok(())
 }

@@ -1,30 +1,18 @@
-use super::*;
-use pdn_base::{Code, Row, Rows, Value};
-use pdn_schema::{Schema, read_schema};
+//! CSV texts as rows, and batches that a keeper takes or refuses.
+use crate::texts::{LARGE, SMALL, code, repeated, rows_of, schema_of};
+use pdn_base::{Rows, Value};
+use pdn_keeper::{AddErr, Added, CsvErr, MemSite, SiteKeeper, import_csv};
+use pdn_schema::Schema;
 use std::alloc::Global;
-use std::test::*;
+use std::test::Fail;
 
-const SMALL: &str = "version 1\nfloor 3\ntable t rows 8\ncolumn c int private\nend\n";
-
-const LARGE: &str =
-    "version 1\nfloor 3\ntable t rows 8\ncolumn c int private\ntable diag rows 16\ncolumn pid int public per 4\ncolumn code code protected\ncolumn day int private\nend\n";
-
-fn schema(alloc: Global, text: &str) -> Result<Schema, Fail> {
-    let read = if text.len() > 1000 {
-        None
-    } else {
-        read_schema(alloc, text.as_bytes()).ok()
-    };
-    Ok(read.ok_or("it is a schema")?)
-}
-
-/// What an import answers, as a text: the rows, each value behind a blank or a comma; or the record and its cause.
-fn imported(alloc: Global, schema: &Schema, table: u32, text: &[u8]) -> Result<String, Fail> {
+/// What an import answers, as a text: the rows, each value before a comma; or the record and its cause.
+fn imported(alloc: Global, schema: &Schema, table: u32, text: &str) -> Result<String, Fail> {
     let mut said = String::new(alloc);
-    if text.len() > 1000 || schema.tables.len() <= table as usize {
+    if text.len() > 10_000 || schema.tables.len() <= table as usize {
         return Ok(said);
     }
-    match import_csv(alloc, schema, table, text) {
+    match import_csv(alloc, schema, table, text.as_bytes()) {
         Ok(rows) => {
             for row in rows.as_slice() {
                 for value in row.values() {
@@ -41,71 +29,61 @@ fn imported(alloc: Global, schema: &Schema, table: u32, text: &[u8]) -> Result<S
     Ok(said)
 }
 
+/// A table, a text, and what its import answers.
+const IMPORTS: &[(u32, &str, &str)] = &[
+    (0, "c\n5\nx\n", "record 2 cause 3"),
+    (0, "d\n5\n", "record 0 cause 1"),
+    (0, "", "record 0 cause 1"),
+    (0, "c,c\n", "record 0 cause 1"),
+    (0, "c\n", ""),
+    (0, "c\r\n5\r\n007", "5,;7,;"),
+    (0, "\u{feff}c\n5\n", "5,;"),
+    (0, "c\n\n\"5\"\n", "5,;"),
+    (0, "c\n\"\"\n", "record 1 cause 3"),
+    (0, "c\n\"5\n6\"\n", "record 1 cause 3"),
+    (0, "c\n4294967295\n4294967296\n", "record 2 cause 3"),
+    (0, "c\n00000000005\n", "record 1 cause 3"),
+    (0, "c\nx,1\n", "record 1 cause 2"),
+    (0, "c\nx\n1,1\n", "record 1 cause 3"),
+    (1, "pid,code,day\n7,a,1\n", "7,6989586621679009792,1,;"),
+    (1, "pid,day,code\n", "record 0 cause 1"),
+    (1, "pid,code,day\n7,toolongcode,1\n", "record 1 cause 3"),
+    (1, "pid,code,day\n7,\"a\nb\",1\n", "record 1 cause 3"),
+];
+
 #[test]
 fn a_text_gives_its_rows_or_its_first_bad_record(rt: HostRuntime) -> Result<(), Fail> {
     let alloc = rt.alloc();
-    let small = schema(alloc, SMALL)?;
-    for (text, said) in [
-        ("c\n5\nx\n", "record 2 cause 3"),
-        ("d\n5\n", "record 0 cause 1"),
-        ("", "record 0 cause 1"),
-        ("c,c\n", "record 0 cause 1"),
-        ("c\n", ""),
-        ("c\r\n5\r\n007", "5,;7,;"),
-        ("\u{feff}c\n5\n", "5,;"),
-        ("c\n\n\"5\"\n", "5,;"),
-        ("c\n\"\"\n", "record 1 cause 3"),
-        ("c\n\"5\n6\"\n", "record 1 cause 3"),
-        ("c\n4294967295\n4294967296\n", "record 2 cause 3"),
-        ("c\n00000000005\n", "record 1 cause 3"),
-        ("c\nx,1\n", "record 1 cause 2"),
-        ("c\nx\n1,1\n", "record 1 cause 3"),
-    ] {
-        assert_eq!(rt;
-            imported(alloc, &small, 0, text.as_bytes())?.as_str(),
-            said,
-            "{text}"
-        );
+    let schema = schema_of(alloc, LARGE)?;
+    for (table, text, wanted) in IMPORTS {
+        let said = imported(alloc, &schema, *table, text)?;
+        assert_eq!(rt; said.as_str(), *wanted, "{text}");
     }
-    let large = schema(alloc, LARGE)?;
-    for (text, said) in [
-        ("pid,code,day\n7,a,1\n", "7,6989586621679009792,1,;"),
-        ("pid,day,code\n", "record 0 cause 1"),
-        ("pid,code,day\n7,toolongcode,1\n", "record 1 cause 3"),
-        ("pid,code,day\n7,\"a\nb\",1\n", "record 1 cause 3"),
-    ] {
-        assert_eq!(rt;
-            imported(alloc, &large, 1, text.as_bytes())?.as_str(),
-            said,
-            "{text}"
-        );
-    }
+    // as many rows as the table may have
+    let text = repeated(String::from_str(alloc, "y,x\n")?, "7,1\n", 256)?;
+    let wanted = repeated(String::new(alloc), "7,1,;", 256)?;
+    let said = imported(alloc, &schema, 3, text.as_str())?;
+    assert_eq!(rt; said.as_str(), wanted.as_str());
     Ok(())
 }
 
 /// Rows of `diag`, each of this pid, with a code and these days.
 fn visits(alloc: Global, pid: u32, days: &[u32]) -> Result<Rows, Fail> {
-    let mut rows = Vec::new(alloc);
-    let code = Code::read(b"flu").ok_or("it is a code")?;
+    let mut rows = rows_of(alloc, &[])?;
     for day in days {
-        let values = Vec::from_slice(
-            alloc,
-            &[Value::Int(pid), Value::Code(code), Value::Int(*day)],
-        )?;
-        rows.push(Row { values })?;
+        let one = rows_of(alloc, &[&[Value::Int(pid), code(b"flu"), Value::Int(*day)]])?;
+        rows.rows.extend(one.rows)?;
     }
-    Ok(Rows { rows })
+    Ok(rows)
 }
 
-/// Rows of the one column `c`.
-fn counts(alloc: Global, values: &[u32]) -> Result<Rows, Fail> {
-    let mut rows = Vec::new(alloc);
-    for value in values {
-        rows.push(Row {
-            values: Vec::from_slice(alloc, &[Value::Int(*value)])?,
-        })?;
+/// So many rows of the number 1.
+fn ones(alloc: Global, count: u32) -> Result<Rows, Fail> {
+    let mut rows = rows_of(alloc, &[])?;
+    for _ in 0..count {
+        rows.rows.extend(rows_of(alloc, &[&[Value::Int(1)]])?.rows)?;
     }
-    Ok(Rows { rows })
+    Ok(rows)
 }
 
 /// What a keeper answers to a batch, as a text.
@@ -143,7 +121,7 @@ fn answer<K: SiteKeeper>(
     })
 }
 
-/// How many rows a keeper hands over.
+/// How many rows a keeper hands over, or none where it hands over none.
 fn held<K: SiteKeeper>(
     alloc: Global,
     keeper: &mut K,
@@ -160,10 +138,10 @@ fn held<K: SiteKeeper>(
 #[test]
 fn batches_are_new_again_differing_or_over_a_bound(rt: HostRuntime) -> Result<(), Fail> {
     let alloc = rt.alloc();
-    let large = schema(alloc, LARGE)?;
-    let nine = counts(alloc, &[1; 9])?;
-    let eight = counts(alloc, &[1; 8])?;
-    let none = counts(alloc, &[])?;
+    let schema = schema_of(alloc, LARGE)?;
+    let none = ones(alloc, 0)?;
+    let eight = ones(alloc, 8)?;
+    let nine = ones(alloc, 9)?;
     let first = visits(alloc, 7, &[1, 2, 3])?;
     let more = visits(alloc, 7, &[4, 5])?;
     let changed = visits(alloc, 7, &[1, 9, 3])?;
@@ -180,53 +158,45 @@ fn batches_are_new_again_differing_or_over_a_bound(rt: HostRuntime) -> Result<()
         (1, 1, &first, "again"),
         (1, 1, &changed, "differs 1 kept 7"),
     ] {
-        let answer = answer(alloc, &mut site, &large, table, number, rows)?;
+        let answer = answer(alloc, &mut site, &schema, table, number, rows)?;
         assert_eq!(rt; answer.as_str(), said);
     }
-    assert_eq!(rt; held(alloc, &mut site, &large, 0), Some(8));
-    assert_eq!(rt; held(alloc, &mut site, &large, 1), Some(3));
+    assert_eq!(rt; held(alloc, &mut site, &schema, 0), Some(8));
+    assert_eq!(rt; held(alloc, &mut site, &schema, 1), Some(3));
     Ok(())
 }
 
 #[test]
 fn a_call_that_is_to_fail_changes_nothing(rt: HostRuntime) -> Result<(), Fail> {
     let alloc = rt.alloc();
-    let small = schema(alloc, SMALL)?;
-    let rows = counts(alloc, &[5, 7, 5])?;
+    let schema = schema_of(alloc, SMALL)?;
+    let rows = ones(alloc, 3)?;
     let mut site = MemSite::new(Vec::new(alloc), Vec::from_slice(alloc, &[1, 3])?);
-    assert_eq!(rt;
-        answer(alloc, &mut site, &small, 0, 0, &rows)?.as_str(),
-        "failed"
-    );
-    assert_eq!(rt; held(alloc, &mut site, &small, 0), Some(0));
-    assert_eq!(rt; held(alloc, &mut site, &small, 0), None);
-    assert_eq!(rt;
-        answer(alloc, &mut site, &small, 0, 0, &rows)?.as_str(),
-        "new"
-    );
-    assert_eq!(rt; held(alloc, &mut site, &small, 0), Some(3));
+    let first = answer(alloc, &mut site, &schema, 0, 0, &rows)?;
+    assert_eq!(rt; first.as_str(), "failed");
+    assert_eq!(rt; held(alloc, &mut site, &schema, 0), Some(0));
+    assert_eq!(rt; held(alloc, &mut site, &schema, 0), None);
+    let second = answer(alloc, &mut site, &schema, 0, 0, &rows)?;
+    assert_eq!(rt; second.as_str(), "new");
+    assert_eq!(rt; held(alloc, &mut site, &schema, 0), Some(3));
     Ok(())
 }
 
 #[test]
 fn kept_rows_may_be_past_a_schema_that_shrank(rt: HostRuntime) -> Result<(), Fail> {
     let alloc = rt.alloc();
-    let wide = schema(alloc, SMALL)?;
-    let narrow = schema(
+    let narrow = schema_of(
         alloc,
         "version 1\nfloor 3\ntable t rows 2\ncolumn c int private\nend\n",
     )?;
-    let rows = counts(alloc, &[5, 7, 5])?;
-    let none = counts(alloc, &[])?;
+    let wide = schema_of(alloc, SMALL)?;
+    let three = ones(alloc, 3)?;
+    let none = ones(alloc, 0)?;
     let mut site = MemSite::new(Vec::new(alloc), Vec::new(alloc));
-    assert_eq!(rt;
-        answer(alloc, &mut site, &wide, 0, 0, &rows)?.as_str(),
-        "new"
-    );
+    let new = answer(alloc, &mut site, &wide, 0, 0, &three)?;
+    assert_eq!(rt; new.as_str(), "new");
     assert_eq!(rt; held(alloc, &mut site, &narrow, 0), Some(3));
-    assert_eq!(rt;
-        answer(alloc, &mut site, &narrow, 0, 1, &none)?.as_str(),
-        "rows 3"
-    );
+    let over = answer(alloc, &mut site, &narrow, 0, 1, &none)?;
+    assert_eq!(rt; over.as_str(), "rows 3");
     Ok(())
 }

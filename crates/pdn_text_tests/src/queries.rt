@@ -1,5 +1,7 @@
-use super::*;
-use std::test::*;
+//! Queries read and printed, and files that are refused.
+use crate::texts::repeated;
+use pdn_sql::{Query, SqlErr, print_query, read_queries};
+use std::test::Fail;
 
 const RECURRENT: &str =
     "WITH d AS (SELECT pid, day, ROW_NUMBER() OVER (PARTITION BY pid ORDER BY day) AS r FROM diag WHERE code = 'cdiff') SELECT DISTINCT a.pid FROM d AS a JOIN d AS b ON a.pid = b.pid AND b.r = a.r + 1 WHERE b.day >= a.day + 15 AND b.day <= a.day + 56 ORDER BY pid;";
@@ -155,89 +157,57 @@ fn a_file_holds_its_queries_in_order(rt: HostRuntime) -> Result<(), Fail> {
     Ok(())
 }
 
-/// Where and how a text of `SELECT a FROM t`, so many blanks and this end is refused.
-fn padded_fault(
-    rt: &HostRuntime,
-    front: &str,
-    blanks: usize,
-    end: &str,
-) -> Result<Option<SqlErr>, Fail> {
-    let mut text = Vec::new(rt.alloc());
-    text.extend_from_slice(front.as_bytes())?;
-    text.extend_from_slice(b"SELECT a FROM t".as_slice())?;
-    for _ in 0..blanks {
-        text.push(32)?;
+/// A text of `SELECT a FROM t`, so many blanks and this end.
+fn padded(rt: &HostRuntime, front: &str, blanks: usize, end: &str) -> Result<String, Fail> {
+    let alloc = rt.alloc();
+    let text = repeated(format!(in alloc; "{front}SELECT a FROM t")?, " ", blanks)?;
+    Ok(format!(in alloc; "{text}{end}")?)
+}
+
+/// What stands before a query, its blanks and its end, and the place and kind of the fault.
+const LONG: &[(&str, usize, &str, Option<(u32, u8)>)] = &[
+    ("", 4080, ";", None),
+    ("", 4081, ";", Some((4096, 7))),
+    ("", 4081, "", Some((4096, 5))),
+    ("", 4082, "", Some((4096, 7))),
+    ("SELECT b FROM u; ", 4080, ";", None),
+    ("SELECT b FROM u; ", 4081, ";", Some((4113, 7))),
+    ("", 4081, "'", Some((4096, 3))),
+    ("", 4081, "SELECT", Some((4096, 5))),
+];
+
+/// The place and kind of a fault, if it is one.
+fn placed(fault: Option<SqlErr>) -> Option<(u32, u8)> {
+    match fault {
+        Some(SqlErr::At { place, kind }) => Some((place, kind)),
+        _ => None,
     }
-    text.extend_from_slice(end.as_bytes())?;
-    Ok(read(rt, &text, 16).err())
 }
 
 #[test]
 fn a_query_has_at_most_4096_bytes(rt: HostRuntime) -> Result<(), Fail> {
-    for (front, blanks, end, want) in [
-        ("", 4080, ";", None),
-        (
-            "",
-            4081,
-            ";",
-            Some(SqlErr::At {
-                place: 4096,
-                kind: 7,
-            }),
-        ),
-        (
-            "",
-            4081,
-            "",
-            Some(SqlErr::At {
-                place: 4096,
-                kind: 5,
-            }),
-        ),
-        (
-            "",
-            4082,
-            "",
-            Some(SqlErr::At {
-                place: 4096,
-                kind: 7,
-            }),
-        ),
-        ("SELECT b FROM u; ", 4080, ";", None),
-        (
-            "SELECT b FROM u; ",
-            4081,
-            ";",
-            Some(SqlErr::At {
-                place: 4113,
-                kind: 7,
-            }),
-        ),
-        (
-            "",
-            4081,
-            "'",
-            Some(SqlErr::At {
-                place: 4096,
-                kind: 3,
-            }),
-        ),
-        (
-            "",
-            4081,
-            "SELECT",
-            Some(SqlErr::At {
-                place: 4096,
-                kind: 5,
-            }),
-        ),
-    ] {
-        assert_eq!(rt;
-            padded_fault(&rt, front, blanks, end)?,
-            want,
-            "{front}{blanks}{end}"
-        );
+    for (front, blanks, end, want) in LONG {
+        let text = padded(&rt, front, *blanks, end)?;
+        let fault = read(&rt, text.as_bytes(), 16).err();
+        assert_eq!(rt; placed(fault), *want, "{front}{blanks}{end}");
     }
+    Ok(())
+}
+
+#[test]
+fn sixteen_queries_of_4096_bytes_are_read_and_no_seventeenth(rt: HostRuntime) -> Result<(), Fail> {
+    let one = padded(&rt, "", 4080, ";")?;
+    let mut text = repeated(String::new(rt.alloc()), one.as_str(), 16)?;
+    let queries = read(&rt, text.as_bytes(), 16)
+        .ok()
+        .ok_or("the text is sixteen queries")?;
+    assert_eq!(rt; queries.len(), 16);
+    text.push_str("SELECT a FROM t;")?;
+    let more = read(&rt, text.as_bytes(), 16).err();
+    assert_eq!(rt; placed(more), Some((65_536, 8)));
+    text.push('?')?;
+    let fault = read(&rt, text.as_bytes(), 17).err();
+    assert_eq!(rt; placed(fault), Some((65_552, 1)));
     Ok(())
 }
 

@@ -1,26 +1,12 @@
-use crate::{
-    Clause, Cmp, Code, Cond, Key, Memory, Op, Operand, Row, Rows, Tables, Term, Value, row_meets,
-    sort_rows,
+//! Codes, numbers, values and words, and rows in order and under conditions.
+use crate::texts::{code, rows_of};
+use pdn_base::{
+    Clause, Cmp, Code, Cond, Key, Memory, Op, Operand, Row, Rows, Tables, Term, Value, Word,
+    number, row_meets, rows_order, sort_rows,
 };
 use std::alloc::Global;
+use std::cmp::Ordering;
 use std::test::Fail;
-
-/// Rows of two values.
-fn pairs(alloc: Global, table: &[(Value, Value)]) -> Result<Rows, Memory> {
-    let mut rows = Vec::new(alloc);
-    for (left, right) in table {
-        rows.push(Row::new(Vec::from_slice(alloc, &[*left, *right])?))?;
-    }
-    Ok(Rows { rows })
-}
-
-/// The code of a text that is one, else 0.
-fn code(text: &[u8]) -> Value {
-    match Code::read(text) {
-        Some(code) => Value::Code(code),
-        None => Value::Int(0),
-    }
-}
 
 #[test]
 fn codes_are_texts_with_numbers(rt: HostRuntime) -> Result<(), Fail> {
@@ -35,6 +21,7 @@ fn codes_are_texts_with_numbers(rt: HostRuntime) -> Result<(), Fail> {
         assert!(rt; code.is_some());
         if let Some(code) = code {
             assert_eq!(rt; code.number(), number);
+            assert_eq!(rt; Code::of_number(code.number()).number(), number);
             assert_eq!(rt; code.text(alloc)?.as_slice(), text);
         }
     }
@@ -55,6 +42,22 @@ fn codes_are_texts_with_numbers(rt: HostRuntime) -> Result<(), Fail> {
 }
 
 #[test]
+fn numbers_have_up_to_ten_digits_and_32_bits(rt: HostRuntime) {
+    for (digits, wanted) in [
+        (b"0".as_slice(), Some(0)),
+        (b"0000000007", Some(7)),
+        (b"4294967295", Some(u32::MAX)),
+        (b"4294967296", None),
+        (b"00000000005", None),
+        (b"", None),
+        (b"-1", None),
+        (b"1 ", None),
+    ] {
+        assert_eq!(rt; number(digits), wanted);
+    }
+}
+
+#[test]
 fn values_are_ordered_by_kind_and_then_by_number(rt: HostRuntime) {
     let rising = [
         Value::Int(0),
@@ -68,47 +71,75 @@ fn values_are_ordered_by_kind_and_then_by_number(rt: HostRuntime) {
     ];
     for at in 1..rising.len() {
         assert!(rt; rising[at - 1] < rising[at]);
+        assert!(rt; rising[at - 1].rank() < rising[at].rank());
         assert!(rt; rising[at] == rising[at]);
     }
+}
+
+#[test]
+fn words_are_64_lanes(rt: HostRuntime) {
+    let edges = Word::from_u64(0xc000_0001_8000_0003);
+    let some = Word::from_u64(0x8000_0001_0000_0001);
+    assert_eq!(rt; edges.xor(&some).to_u64(), 0x4000_0000_8000_0002);
+    assert_eq!(rt; edges.and(&some).to_u64(), 0x8000_0001_0000_0001);
+    for (lane, set) in [
+        (0, true),
+        (1, false),
+        (31, false),
+        (32, true),
+        (62, false),
+        (63, true),
+    ] {
+        assert_eq!(rt; some.lane(lane), set, "lane {lane}");
+        let all = if set { u64::MAX } else { 0 };
+        assert_eq!(rt; some.spread(lane).to_u64(), all, "lane {lane}");
+    }
+    assert_eq!(rt; edges.move_lanes(31, 2, 62).to_u64(), 0xc000_0000_0000_0000);
+    assert_eq!(rt; some.move_lanes(0, 64, 0), some);
+}
+
+/// A column by which rows are ordered.
+fn key(column: u32, down: bool) -> Key {
+    Key { column, down }
 }
 
 #[test]
 fn sorted_rows_keep_equal_ones_and_follow_their_keys(rt: HostRuntime) -> Result<(), Fail> {
     let alloc = rt.alloc();
     let n = |number| Value::Int(number);
-    let cases: [(&[Key], &[(Value, Value)]); 3] = [
-        (
-            &[],
-            &[(n(4), n(1)), (n(9), n(0)), (n(9), n(2)), (n(9), n(2))],
-        ),
-        (
-            &[Key {
-                column: 0,
-                down: true,
-            }],
-            &[(n(9), n(0)), (n(9), n(2)), (n(9), n(2)), (n(4), n(1))],
-        ),
-        (
-            &[
-                Key {
-                    column: 1,
-                    down: true,
-                },
-                Key {
-                    column: 0,
-                    down: false,
-                },
-            ],
-            &[(n(9), n(2)), (n(9), n(2)), (n(4), n(1)), (n(9), n(0))],
-        ),
+    let one = [n(4), n(1)];
+    let low = [n(9), n(0)];
+    let high = [n(9), n(2)];
+    let cases: [(&[Key], [&[Value]; 4]); 3] = [
+        (&[], [&one, &low, &high, &high]),
+        (&[key(0, true)], [&low, &high, &high, &one]),
+        (&[key(1, true), key(0, false)], [&high, &high, &one, &low]),
     ];
     for (keys, wanted) in cases {
-        let rows = pairs(
-            alloc,
-            &[(n(9), n(2)), (n(4), n(1)), (n(9), n(0)), (n(9), n(2))],
-        )?;
-        let sorted = sort_rows(rows, keys)?;
-        assert!(rt; sorted.as_slice() == pairs(alloc, wanted)?.as_slice());
+        let sorted = sort_rows(rows_of(alloc, &[&high, &one, &low, &high])?, keys)?;
+        assert!(rt; sorted.as_slice() == rows_of(alloc, &wanted)?.as_slice());
+    }
+    let down = rows_order(
+        &[key(1, true)],
+        &Row::new(Vec::from_slice(alloc, &one)?),
+        &Row::new(Vec::from_slice(alloc, &high)?),
+    );
+    assert!(rt; down == Ordering::Greater);
+    Ok(())
+}
+
+#[test]
+fn two_thousand_rows_are_sorted(rt: HostRuntime) -> Result<(), Fail> {
+    let alloc = rt.alloc();
+    let mut rows = Vec::new(alloc);
+    for place in 0..2_000u32 {
+        // 7 and 2,000 have no factor in common: each number below 2,000 comes once
+        rows.push(Row::new(Vec::from_slice(alloc, &[Value::Int(place * 7 % 2_000)])?))?;
+    }
+    let sorted = sort_rows(Rows { rows }, &[])?;
+    assert_eq!(rt; sorted.as_slice().len(), 2_000);
+    for (place, row) in sorted.as_slice().iter().enumerate() {
+        assert_eq!(rt; row.cell(0).number(), place as u64);
     }
     Ok(())
 }
@@ -158,10 +189,14 @@ fn every_clause_has_a_true_comparison(rt: HostRuntime) -> Result<(), Fail> {
 #[test]
 fn copies_are_equal(rt: HostRuntime) -> Result<(), Fail> {
     let alloc = rt.alloc();
-    let table = [(Value::Int(3), code(b"flu")), (Value::Int(1), code(b"x"))];
-    let rows = pairs(alloc, &table)?;
+    let first = [Value::Int(3), code(b"flu")];
+    let second = [Value::Int(1), code(b"x")];
+    let rows = rows_of(alloc, &[&first, &second])?;
     let copy = rows.copy(alloc)?;
     assert!(rt; rows.as_slice() == copy.as_slice());
+    for row in rows.as_slice() {
+        assert!(rt; row.copy(alloc)?.values() == row.values());
+    }
     let mut lists = Vec::new(alloc);
     lists.push(rows)?;
     lists.push(copy)?;

@@ -1,50 +1,51 @@
-use super::*;
-use pdn_base::{Code, Row, Rows, RowsErr, Value};
+//! Schemas read and printed, files that are refused, and rows judged by a schema.
+use crate::texts::{LARGE, SMALL, code, repeated, rows_of, schema_of};
+use pdn_base::{Rows, RowsErr, Value};
+use pdn_schema::{Schema, SchemaErr, count_of, print_schema, read_schema, valid_rows};
 use std::alloc::Global;
-use std::test::*;
+use std::test::Fail;
 
-const SMALL: &str = "version 1\nfloor 3\ntable t rows 8\ncolumn c int private\nend\n";
+/// A small schema in other spellings.
+const FREE: &str =
+    "# two sites\r\n\n version\t01 \r\n\t\nfloor 0000000003\n  # a table\ntable\tt  rows 8\r\ncolumn c int private\nend";
 
-const LARGE: &str =
-    "version 1\nfloor 3\ncaller ann calls 2\ntable t rows 8\ncolumn c int private\ntable diag rows 16\ncolumn pid int public per 4\ncolumn code code protected\ncolumn day int private\ntable med rows 16\ncolumn pid int public per 4\ncolumn drug code protected\ncolumn day int private\ntable wide rows 256\ncolumn y int public per 64\ncolumn x int private\nend\n";
+/// A name of sixteen bytes, and one that begins with a word of SQL.
+const NAMES: &str =
+    "version 1\nfloor 3\ntable abcdefghijklmn_9 rows 4\ncolumn groups int private\nend\n";
 
-fn read(alloc: Global, text: &str) -> Result<Schema, SchemaErr> {
-    if text.len() > 1_000_000 {
-        return Err(SchemaErr::Memory);
+const CALLERS: &str =
+    "caller a calls 1\ncaller b calls 2\ncaller c calls 3\ncaller d calls 4\ncaller e calls 5\ncaller f calls 6\ncaller g calls 7\ncaller h calls 65536\n";
+
+const COLUMNS: &str =
+    "column a int public per 64\ncolumn b int public per 1\ncolumn c int private\ncolumn d code protected\ncolumn e code public per 64\ncolumn f int protected\ncolumn g int private\ncolumn h int private\n";
+
+/// Eight callers, and eight tables of eight columns.
+fn full(alloc: Global) -> Result<String, Fail> {
+    let mut text = format!(in alloc; "version 1\nfloor 64\n{CALLERS}")?;
+    for table in ["a", "b", "c", "d", "e", "f", "g", "h"] {
+        text = format!(in alloc; "{text}table {table} rows 256\n{COLUMNS}")?;
     }
-    read_schema(alloc, text.as_bytes())
-}
-
-/// What is printed of the schema that a text says; nothing where it says none.
-fn printed(alloc: Global, text: &str) -> Option<Vec<u8>> {
-    let schema = read(alloc, text).ok()?;
-    print_schema(alloc, &schema).ok()
+    Ok(format!(in alloc; "{text}end\n")?)
 }
 
 #[test]
-fn the_worked_schemas_are_read_and_printed_again(rt: HostRuntime) {
-    let small = printed(rt.alloc(), SMALL).unwrap_or(Vec::new(rt.alloc()));
-    assert_eq!(rt; small.as_slice(), SMALL.as_bytes());
-    let large = printed(rt.alloc(), LARGE).unwrap_or(Vec::new(rt.alloc()));
-    assert_eq!(rt; large.as_slice(), LARGE.as_bytes());
-}
-
-#[test]
-fn blanks_comments_returns_and_zeros_are_free(rt: HostRuntime) {
-    let text =
-        "# two sites\r\n\n version\t01 \r\n\t\nfloor 0000000003\n  # a table\ntable\tt  rows 8\r\ncolumn c int private\nend";
-    let plain = printed(rt.alloc(), text).unwrap_or(Vec::new(rt.alloc()));
-    assert_eq!(rt; plain.as_slice(), SMALL.as_bytes());
-}
-
-#[test]
-fn a_copy_is_equal(rt: HostRuntime) -> Result<(), Fail> {
-    let schema = read(rt.alloc(), LARGE).ok().ok_or("it is a schema")?;
-    let copy = schema.copy(rt.alloc()).ok().ok_or("memory is there")?;
-    let text = print_schema(rt.alloc(), &copy)
-        .ok()
-        .ok_or("memory is there")?;
-    assert_eq!(rt; text.as_slice(), LARGE.as_bytes());
+fn schemas_are_read_and_printed_again(rt: HostRuntime) -> Result<(), Fail> {
+    let alloc = rt.alloc();
+    let full = full(alloc)?;
+    let told = format!(in alloc; "# one two three four five six seven\n{full}")?;
+    for (text, wanted) in [
+        (SMALL, SMALL),
+        (LARGE, LARGE),
+        (NAMES, NAMES),
+        (FREE, SMALL),
+        (told.as_str(), full.as_str()),
+    ] {
+        let schema = schema_of(alloc, text)?;
+        let printed = print_schema(alloc, &schema)?;
+        assert_eq!(rt; printed.as_slice(), wanted.as_bytes());
+        let copied = print_schema(alloc, &schema.copy(alloc)?)?;
+        assert_eq!(rt; copied.as_slice(), wanted.as_bytes());
+    }
     Ok(())
 }
 
@@ -89,30 +90,31 @@ version 1/floor 3/table a rows 1/column c int private/table b rows 1/column c in
 version 1/floor 3/table t rows 1/column a int private/column b int private/column c int private/column d int private/column e int private/column f int private/column g int private/column h int private/column i int private/ => 12 8
 version 1/floor 3/table t rows 1/column a int private/column b int private/column c int private/column d int private/column e int private/column f int private/column g int private/column h int private/column h int private/ => 12 7";
 
-/// The line and the cause that a file with `/` for a line feed is refused with.
-fn refusal(alloc: Global, file: &str) -> Option<String> {
-    let text = file.replace(alloc, "/", "\n").ok()?;
-    match read(alloc, text.as_str()) {
-        Err(SchemaErr::Line { line, cause }) => format!(in alloc; "{line} {cause}").ok(),
+/// The line and the cause that a text of at most 1,000,000 bytes is refused with.
+fn refusal(alloc: Global, text: &str) -> Option<(u32, u8)> {
+    if text.len() > 1_000_000 {
+        return None;
+    }
+    match read_schema(alloc, text.as_bytes()) {
+        Err(SchemaErr::Line { line, cause }) => Some((line, cause)),
         _ => None,
     }
 }
 
 #[test]
 fn the_first_fault_is_answered_with_its_least_cause(rt: HostRuntime) -> Result<(), Fail> {
+    let alloc = rt.alloc();
     for case in FAULTS.split('\n') {
         let (file, wanted) = case.split_once(" => ").ok_or("a case has an arrow")?;
-        let got = refusal(rt.alloc(), file).ok_or("it is refused for a line")?;
+        let text = file.replace(alloc, "/", "\n")?;
+        let (line, cause) = refusal(alloc, text.as_str()).ok_or("it is refused for a line")?;
+        let got = format!(in alloc; "{line} {cause}")?;
         assert_eq!(rt; got.as_str(), wanted, "of {file}");
     }
+    let mut text = repeated(String::new(alloc), "# a comment\n", 10_000)?;
+    text.push_str("floor 3\n")?;
+    assert_eq!(rt; refusal(alloc, text.as_str()), Some((10_001, 2)));
     Ok(())
-}
-
-#[test]
-fn a_name_has_up_to_sixteen_bytes(rt: HostRuntime) {
-    let text =
-        "version 1\nfloor 3\ntable abcdefghijklmn_9 rows 4\ncolumn groups int private\nend\n";
-    assert!(rt; read(rt.alloc(), text).is_ok());
 }
 
 #[test]
@@ -128,59 +130,22 @@ fn a_file_that_is_cut_off_says_no_schema(rt: HostRuntime) {
     }
 }
 
-#[test]
-fn there_are_up_to_eight_of_each(rt: HostRuntime) {
-    let callers =
-        "version 1\nfloor 3\ncaller a calls 1\ncaller b calls 1\ncaller c calls 1\ncaller d calls 1\ncaller e calls 1\ncaller f calls 1\ncaller g calls 1\ncaller h calls 1\ntable t rows 1\ncolumn c int private\nend\n";
-    assert!(rt; read(rt.alloc(), callers).is_ok());
-    let tables =
-        "version 1\nfloor 3\ntable a rows 1\ncolumn c int private\ntable b rows 1\ncolumn c int private\ntable c rows 1\ncolumn c int private\ntable d rows 1\ncolumn c int private\ntable e rows 1\ncolumn c int private\ntable f rows 1\ncolumn c int private\ntable g rows 1\ncolumn c int private\ntable h rows 1\ncolumn c int private\nend\n";
-    assert!(rt; read(rt.alloc(), tables).is_ok());
-    let columns =
-        "version 1\nfloor 3\ntable t rows 1\ncolumn a int private\ncolumn b int private\ncolumn c int private\ncolumn d int private\ncolumn e int private\ncolumn f int private\ncolumn g int private\ncolumn h int private\nend\n";
-    assert!(rt; read(rt.alloc(), columns).is_ok());
-}
-
-#[test]
-fn ten_thousand_comments_are_counted(rt: HostRuntime) -> Result<(), Fail> {
-    let mut text = String::new(rt.alloc());
-    for _ in 0..10000 {
-        text.push_str("# a comment\n")
-            .ok()
-            .ok_or("memory is there")?;
-    }
-    text.push_str("floor 3\n").ok().ok_or("memory is there")?;
-    assert_eq!(rt;
-        read(rt.alloc(), text.as_str()).err(),
-        Some(SchemaErr::Line {
-            line: 10001,
-            cause: 2
-        })
-    );
-    Ok(())
-}
-
-fn diagnosis(alloc: Global, pid: u32, code: &str, day: u32) -> Option<Row> {
-    let code = Code::read(code.as_bytes())?;
-    let values = vec![in alloc; Value::Int(pid), Value::Code(code), Value::Int(day)].ok()?;
-    Some(Row::new(values))
-}
-
-/// Rows of one patient each, so many of each number; at the end one more row.
-fn diagnoses(alloc: Global, pids: &[u32], last: Option<Row>) -> Option<Rows> {
-    let mut rows = Vec::new(alloc);
+/// Rows of a patient each with one code and one day, and behind them, where it is asked for, one of a number alone.
+fn diagnoses(alloc: Global, pids: &[u32], short: bool) -> Result<Rows, Fail> {
+    let mut rows = rows_of(alloc, &[])?;
     for pid in pids {
-        rows.push(diagnosis(alloc, *pid, "flu", 1)?).ok()?;
+        let one = rows_of(alloc, &[&[Value::Int(*pid), code(b"flu"), Value::Int(1)]])?;
+        rows.rows.extend(one.rows)?;
     }
-    if let Some(row) = last {
-        rows.push(row).ok()?;
+    if short {
+        rows.rows.extend(rows_of(alloc, &[&[Value::Int(1)]])?.rows)?;
     }
-    Some(Rows { rows })
+    Ok(rows)
 }
 
 /// What `valid_rows` says, where the table is one of the schema's and there are few rows.
 fn judged(schema: &Schema, table: u32, rows: &Rows) -> Option<Result<(), RowsErr>> {
-    if schema.tables.len() <= table as usize || 1000 < rows.rows.len() {
+    if schema.tables.len() <= table as usize || 1_000 < rows.rows.len() {
         return None;
     }
     Some(valid_rows(schema, table, rows))
@@ -188,28 +153,33 @@ fn judged(schema: &Schema, table: u32, rows: &Rows) -> Option<Result<(), RowsErr
 
 #[test]
 fn rows_are_judged_by_type_then_number_then_value(rt: HostRuntime) -> Result<(), Fail> {
-    let schema = read(rt.alloc(), LARGE).ok().ok_or("it is a schema")?;
+    let alloc = rt.alloc();
+    let schema = schema_of(alloc, LARGE)?;
     let many = [1, 1, 1, 1, 1, 2, 3, 4, 5, 6, 7, 8, 9, 10, 11, 12, 13];
-    let short = Row::new(
-        vec![in rt.alloc(); Value::Int(1)]
-            .ok()
-            .ok_or("memory is there")?,
-    );
-    let wrong = diagnoses(rt.alloc(), &many, Some(short)).ok_or("memory is there")?;
-    let over = diagnoses(rt.alloc(), &many, None).ok_or("memory is there")?;
-    let five = diagnoses(rt.alloc(), &many[..16], None).ok_or("memory is there")?;
-    let fine = diagnoses(rt.alloc(), &many[1..], None).ok_or("memory is there")?;
-    assert_eq!(rt;
-        judged(&schema, 1, &wrong),
-        Some(Err(RowsErr::WrongType { row: 17, column: 1 }))
-    );
-    assert_eq!(rt; judged(&schema, 1, &over), Some(Err(RowsErr::TooMany)));
-    assert_eq!(rt; judged(&schema, 1, &five), Some(Err(RowsErr::PerValue(0))));
-    assert_eq!(rt; judged(&schema, 1, &fine), Some(Ok(())));
-    assert_eq!(rt;
-        judged(&schema, 0, &fine),
-        Some(Err(RowsErr::WrongType { row: 0, column: 1 }))
-    );
-    assert_eq!(rt; judged(&schema, 2, &fine), Some(Ok(())));
+    for (table, pids, short, answer) in [
+        (
+            1,
+            &many[..],
+            true,
+            Err(RowsErr::WrongType { row: 17, column: 1 }),
+        ),
+        (1, &many[..], false, Err(RowsErr::TooMany)),
+        (1, &many[..16], false, Err(RowsErr::PerValue(0))),
+        (1, &many[1..], false, Ok(())),
+        (
+            0,
+            &many[1..],
+            false,
+            Err(RowsErr::WrongType { row: 0, column: 1 }),
+        ),
+        (2, &many[1..], false, Ok(())),
+    ] {
+        let rows = diagnoses(alloc, pids, short)?;
+        assert_eq!(rt; judged(&schema, table, &rows), Some(answer));
+    }
+    let rows = diagnoses(alloc, &many, false)?;
+    assert_eq!(rt; count_of(rows.as_slice(), 0, 1), 5);
+    assert!(rt; 1 < schema.tables.len());
+    assert_eq!(rt; schema.table(1).name.as_str(), "diag");
     Ok(())
 }

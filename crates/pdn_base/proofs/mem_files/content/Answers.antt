@@ -1,4 +1,4 @@
-use Rattle.std.proofs.Common.{None, Some, sym, ◌∙◌}
+use Rattle.std.proofs.Common.{None, Some}
 use Rattle.pdn_base.proofs.FileMaps.{content_found}
 use Rattle.pdn_base.proofs.mem_files.content.Goals as goal
 

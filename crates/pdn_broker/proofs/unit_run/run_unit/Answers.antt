@@ -1,10 +1,9 @@
-use Rattle.std.proofs.Common.{ap, ◌∙◌, length, rules}
+use Rattle.std.proofs.Common.{ap, ◌∙◌, length}
+use Rattle.std.proofs.lemmas.Result.{IfOk-weaker}
 use Rattle.pdn_base.specs.declared.site.Site.TheVariants.{A, B}
 use Rattle.pdn_dealer.specs.Sections.{layout_of}
-use Rattle.pdn_dealer.proofs.SectionWords.{covers_of}
-use Rattle.pdn_gmw.specs.Steps.{FinishedHalf}
 use Rattle.pdn_gmw.proofs.Meeting.{part_fits, halves_of_section, length-first_words}
-use Rattle.pdn_broker.proofs.RunLaws.{halves_ran, ran_at, given_same, own_fits_a, own_fits_b, given_fits_a, given_fits_b}
+use Rattle.pdn_broker.proofs.RunLaws.{run_on_section, given_same, own_fits_a, own_fits_b, given_fits_a, given_fits_b}
 use Rattle.pdn_broker.proofs.unit_run.run_unit.Goals as goal
 
 pub split-requires : goal.split-requires
@@ -13,21 +12,21 @@ split-requires g c = ap length c.in_ok-section.ensures ∙ length-first_words _ 
 pub new-requires : goal.new-requires
 new-requires g c =
     part_fits c.args.circuit.now A c.in_ok-section.section _ _ _ (ap length c.in_ok-section.ensures ∙ length-first_words _ _ ∙ c.section_len.ensures) c.in_ok-part_a.ensures.a
-    (own_fits_a c.args.circuit.now c.args.own c.args.given _ _ c.own.view_is (c.takes.ensures (search rules))) (given_fits_a c.args.circuit.now c.args.own c.args.given _ _ c.given.view_is (c.takes.ensures (search rules)))
+    (own_fits_a c.args.circuit.now c.args.own c.args.given _ _ c.own.view_is c.requires) (given_fits_a c.args.circuit.now c.args.own c.args.given _ _ c.given.view_is c.requires)
 
 pub new-requires-2 : goal.new-requires-2
 new-requires-2 g c =
     part_fits c.args.circuit.now B c.in_ok-section.section _ _ _ (ap length c.in_ok-section.ensures ∙ length-first_words _ _ ∙ c.section_len.ensures) c.in_ok-part_a.ensures.b
-    (own_fits_b c.args.circuit.now c.args.own c.args.given _ _ c.own.view_is (c.takes.ensures (search rules))) (given_fits_b c.args.circuit.now c.args.own c.args.given _ _ c.given.view_is (c.takes.ensures (search rules)))
+    (own_fits_b c.args.circuit.now c.args.own c.args.given _ _ c.own.view_is c.requires) (given_fits_b c.args.circuit.now c.args.own c.args.given _ _ c.given.view_is c.requires)
 
 pub run_pair-requires : goal.run_pair-requires
 run_pair-requires g c =
     halves_of_section c.args.circuit.now (layout_of c.args.circuit.now c.in_ok-section.section) _ _ _ _ _ _ _ _ c.in_ok-part_a.ensures.a c.in_ok-part_a.ensures.b
-    (given_same c.args.circuit.now c.args.own c.args.given _ _ c.given.view_is (c.takes.ensures (search rules))) c.in_ok-a.ensures c.in_ok-b.ensures
+    (given_same c.args.circuit.now c.args.own c.args.given _ _ c.given.view_is c.requires) c.in_ok-a.ensures c.in_ok-b.ensures
 
 pub returns : goal.returns
 returns g c =
-    ran_at c.own.view_is c.given.view_is
-    (halves_ran c.args.circuit.now (layout_of c.args.circuit.now c.in_ok-section.section) (record { a = c.own.inside.a.items; b = c.own.inside.b.items }) (record { a = c.given.inside.a.items; b = c.given.inside.b.items }) _ _ _ _ _ _
-    (covers_of c.args.circuit.now c.in_ok-section.section (ap length c.in_ok-section.ensures ∙ length-first_words _ _ ∙ c.section_len.ensures)) c.in_ok-part_a.ensures.a c.in_ok-part_a.ensures.b c.in_ok-a.ensures c.in_ok-b.ensures c.in_ok-run.ensures.shares
-    (c.in_ok-from_slice.ensures.items ∙ c.outputs.ensures ∙ ap (λ (f : FinishedHalf). f.outputs) c.a-2.ensures) (c.in_ok-from_slice-2.ensures.items ∙ c.outputs-2.ensures ∙ ap (λ (f : FinishedHalf). f.outputs) c.b.ensures))
+    IfOk-weaker c.run_pair.result _ _
+    (λ run is. run_on_section c.args.circuit.now (g.D.Deal.tape c.args.deal.now) c.args.at c.in_ok-section.section _ c.args.own c.args.given _ _ _ _ _ _ _ _ run
+    c.in_ok-section.ensures c.section_len.ensures c.own.view_is c.given.view_is c.in_ok-part_a.ensures.a c.in_ok-part_a.ensures.b c.in_ok-a.ensures c.in_ok-b.ensures is)
+    c.run_pair.ensures.shares

@@ -3,7 +3,7 @@ use Rattle.std.specs.Prelude.{sum}
 use Rattle.std.proofs.lemmas.List.Sums.{sum_by_more}
 use Rattle.pdn_base.specs.declared.marks.Kind.TheVariants as kind
 use Rattle.pdn_obl_rows.proofs.NumberRows.{lists_none, lists_more}
-use Rattle.pdn_obl_rows.proofs.tests.number_lists.Goals as goal
+use Rattle.pdn_circuit_tests.proofs.rows.number_lists.Goals as goal
 
 pub loop-k-init : goal.loop-k-init
 loop-k-init c =

@@ -3,7 +3,7 @@ use Rattle.pdn_circuit.specs.declared.gate.Gate.{Gate}
 use Rattle.std.specs.List.{count_by}
 use Rattle.std.proofs.Common.{List}
 use Rattle.pdn_circuit.specs.Gates.{Net}
-use Rattle.pdn_dealer.specs.Sections.{is_and}
+use Rattle.pdn_circuit.specs.Gates.{is_and}
 use Rattle.pdn_dealer.proofs.SectionWords.{length-ands}
 use Rattle.pdn_dealer.proofs.sections.and_gates.Goals as goal
 

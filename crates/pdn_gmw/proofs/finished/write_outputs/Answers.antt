@@ -1,6 +1,7 @@
-use Rattle.std.proofs.Common.{◌≡◌, ◌<◌, ℕ, length, get_or, ap, sym, ◌∙◌, subst, arith}
+use Rattle.std.proofs.Common.{◌≡◌, ◌<◌, ℕ, [], length, get_or, ap, sym, ◌∙◌, subst, arith}
 use Rattle.std.proofs.lemmas.List.{length-set, get_or_read}
 use Rattle.pdn_circuit.specs.Gates.{Net, IsCircuit}
+use Rattle.pdn_gmw.specs.Known.{held}
 use Rattle.pdn_gmw.proofs.Putting.{put_out_more, all_put_out, share_read}
 use Rattle.pdn_gmw.proofs.finished.write_outputs.Goals as goal
 
@@ -15,8 +16,8 @@ loop-k-preserved c =
     record {
       long = length-set c.loop-k.outputs.items c.loop-k.k c.cover.result ∙ inv.long;
       end = inv.end;
-      before = put_out_more c.args.circuit.now c.args.holdings.now c.args.shares.now c.loop-k.outputs.items c.loop-k.k c.cover.result c.requires.fits here inv.long
-          (share_read _ c.args.circuit.now c.args.holdings.now.part.masks c.args.shares.now c.loop-k.k c.index.result.now c.index-shares-index.result c.cover.result c.circuit.view_is here
+      before = put_out_more c.args.circuit.now (held c.args.holdings.now []) c.args.shares.now c.loop-k.outputs.items c.loop-k.k c.cover.result c.requires.masks here inv.long
+          (share_read _ c.args.circuit.now c.args.holdings.now.masks c.args.shares.now c.loop-k.k c.index.result.now c.index-shares-index.result c.cover.result c.circuit.view_is here
           c.index.ensures (omega (arith, place, below, gates, c.requires.shares)) c.index-shares-index.is c.cover.ensures)
           inv.before;
     }
@@ -24,4 +25,4 @@ loop-k-preserved c =
 pub returns : goal.returns
 returns c =
     let inv = c.loop-k.invariant in
-    all_put_out c.args.circuit.now c.args.holdings.now c.args.shares.now c.loop-k.outputs.items c.requires.fits inv.long (λ j b. inv.before j (omega (arith, c.loop-k-test.false, inv.end)))
+    all_put_out c.args.circuit.now (held c.args.holdings.now []) c.args.shares.now c.loop-k.outputs.items c.requires.masks inv.long (λ j b. inv.before j (omega (arith, c.loop-k-test.false, inv.end)))

@@ -1,11 +1,10 @@
 use Rattle.std.proofs.Common.{◌≡◌, ◌+◌, ℕ, List, length, ap, sym, ◌∙◌, subst, arith}
 use Rattle.pdn_base.specs.Words.{xor_lists}
 use Rattle.pdn_circuit.specs.Gates.{Net, output_words}
-use Rattle.pdn_dealer.specs.Sections.{five_count}
 use Rattle.pdn_gmw.specs.declared.stage.Stage.TheVariants.{Sent, Over}
-use Rattle.pdn_gmw.specs.Steps.{HalfState, FinishedHalf, next_frame, after_next, after_take}
+use Rattle.pdn_gmw.specs.Steps.{HalfState, FinishedHalf, frame_count, next_frame, after_next, after_take}
 use Rattle.pdn_gmw.specs.Pairs.{run_of}
-use Rattle.pdn_gmw.proofs.Running.{state_a, state_b, begins_a, begins_b, next_a, next_b, ended_a, ended_b, shares_open}
+use Rattle.pdn_gmw.proofs.Running.{state_a, state_b, begins_a, begins_b, next_a, next_b, ended_a, ended_b, shares_open, frame_few}
 use Rattle.pdn_gmw.proofs.run.run_pair.Goals as goal
 
 pub loop-init : goal.loop-init
@@ -27,7 +26,7 @@ loop-preserved c =
 pub returns-clause-shares : goal.returns-clause-shares
 returns-clause-shares c =
     let inv = c.loop.invariant in
-    let n : c.loop.counter ≡ five_count c.args.a.net = omega (arith, inv.end, c.loop-test.false, c.loop.auto.counter-end) in
+    let n : c.loop.counter ≡ frame_count c.args.a.net = omega (arith, inv.end, c.loop-test.false, c.loop.auto.counter-end) in
     let a = c.finish.ensures ∙ ended_a c.args.a c.args.b c.loop.counter c.next-done.follows.lender-at-none c.requires c.frames-end.ensures.fits c.frames-end.ensures.circuit n (c.next-done.follows.holds-at-none ∙ ap after_next inv.a) in
     let b = c.finish-2.ensures ∙ ended_b c.args.a c.args.b c.loop.counter c.next-done-2.follows.lender-at-none c.requires c.frames-end.ensures.fits c.frames-end.ensures.circuit n (c.next-done-2.follows.holds-at-none ∙ ap after_next inv.b) in
     let run = run_of c.args.a c.args.b in
@@ -36,10 +35,20 @@ returns-clause-shares c =
 pub returns-clause-opens : goal.returns-clause-opens
 returns-clause-opens c =
     let inv = c.loop.invariant in
-    let n : c.loop.counter ≡ five_count c.args.a.net = omega (arith, inv.end, c.loop-test.false, c.loop.auto.counter-end) in
+    let n : c.loop.counter ≡ frame_count c.args.a.net = omega (arith, inv.end, c.loop-test.false, c.loop.auto.counter-end) in
     let a = c.finish.ensures ∙ ended_a c.args.a c.args.b c.loop.counter c.next-done.follows.lender-at-none c.requires c.frames-end.ensures.fits c.frames-end.ensures.circuit n (c.next-done.follows.holds-at-none ∙ ap after_next inv.a) in
     let b = c.finish-2.ensures ∙ ended_b c.args.a c.args.b c.loop.counter c.next-done-2.follows.lender-at-none c.requires c.frames-end.ensures.fits c.frames-end.ensures.circuit n (c.next-done-2.follows.holds-at-none ∙ ap after_next inv.b) in
     let run = run_of c.args.a c.args.b in
     ap (λ (f : FinishedHalf). xor_lists f.outputs c.finish-2.result.outputs) a
     ∙ ap (λ (f : FinishedHalf). xor_lists run.a.outputs f.outputs) b
     ∙ shares_open c.args.a c.args.b c.requires c.frames-end.ensures.fits c.frames-end.ensures.circuit
+
+pub receive-requires-clause-few : goal.receive-requires-clause-few
+receive-requires-clause-few c =
+    let words = c.as_slice.ensures.value ∙ c.in_ok-send-2.ensures.frame ∙ ap next_frame c.loop.invariant.b in
+    omega (arith, ap length words, frame_few (state_b c.args.a c.args.b c.loop.counter) c.frames-end.ensures.circuit)
+
+pub receive-requires-in-loop-clause-few : goal.receive-requires-in-loop-clause-few
+receive-requires-in-loop-clause-few c =
+    let words = c.as_slice-in-loop.ensures.value ∙ c.in_ok-send.ensures.frame ∙ ap next_frame c.loop.invariant.a in
+    omega (arith, ap length words, frame_few (state_a c.args.a c.args.b c.loop.counter) c.frames-end.ensures.circuit)

@@ -1,5 +1,5 @@
 use Rattle.std.proofs.Common.{ap, ◌∙◌, arith}
-use Rattle.pdn_plan.specs.declared.node.Node.TheVariants as node
+use Rattle.pdn_tree.specs.declared.node.Node.TheVariants as node
 use Rattle.pdn_plan.proofs.Capping.{deepened_more}
 use Rattle.pdn_plan.proofs.block.+deepened.Goals as goal
 

@@ -1,5 +1,5 @@
 use Rattle.std.proofs.Common.{List, ℕ, ap₂, ◌∙◌}
-use Rattle.pdn_plan.specs.Columns.{Clauses, clauses_at, place_in}
+use Rattle.pdn_tree.specs.Columns.{Clauses, clauses_at, place_in}
 use Rattle.pdn_plan.specs.Planning.{filtered}
 use Rattle.pdn_plan.proofs.block.chosen_node.Goals as goal
 

@@ -1,5 +1,5 @@
 use Rattle.std.proofs.Common.{◌≡◌, take, map}
-use Rattle.pdn_plan.specs.Columns.{cmp_at}
+use Rattle.pdn_tree.specs.Columns.{cmp_at}
 use Rattle.pdn_plan.specs.Splitting.{renamed}
 use Rattle.pdn_plan.proofs.split.clause_at.Given as goal
 

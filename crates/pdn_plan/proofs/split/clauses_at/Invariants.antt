@@ -1,5 +1,5 @@
 use Rattle.std.proofs.Common.{◌≡◌, take}
-use Rattle.pdn_plan.specs.Columns.{clauses_at}
+use Rattle.pdn_tree.specs.Columns.{clauses_at}
 use Rattle.pdn_plan.specs.Splitting.{renamed}
 use Rattle.pdn_plan.proofs.split.clauses_at.Given as goal
 

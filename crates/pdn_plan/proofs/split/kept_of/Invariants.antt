@@ -1,5 +1,5 @@
 use Rattle.std.proofs.Common.{◌≡◌}
-use Rattle.pdn_plan.specs.Columns.{has}
+use Rattle.pdn_tree.specs.Columns.{has}
 use Rattle.pdn_plan.specs.Splitting.{kept_of}
 use Rattle.pdn_plan.proofs.split.kept_of.Given as goal
 

@@ -1,5 +1,5 @@
 use Rattle.std.proofs.Common.{◌++◌, ◌∷◌, [], List, ℕ, Bool, cond, sym, ◌∙◌, ap₂}
-use Rattle.pdn_plan.specs.Columns.{has}
+use Rattle.pdn_tree.specs.Columns.{has}
 use Rattle.pdn_plan.proofs.KeepLaws.{kept_more}
 use Rattle.pdn_plan.proofs.split.needed_below.Goals as goal
 

@@ -1,5 +1,5 @@
 use Rattle.std.proofs.Common.{◌≡◌, ◌++◌, take}
-use Rattle.pdn_plan.specs.Columns.{shifted}
+use Rattle.pdn_tree.specs.Columns.{shifted}
 use Rattle.pdn_plan.proofs.split.with_shifted.Given as goal
 
 abbrev pub invariant-loop-column : goal.invariant-loop-column

@@ -1,5 +1,5 @@
 use Rattle.std.proofs.Common.{◌≡◌, take, length}
-use Rattle.pdn_plan.specs.Columns.{place_in}
+use Rattle.pdn_tree.specs.Columns.{place_in}
 use Rattle.pdn_plan.specs.Names.{place}
 use Rattle.pdn_plan.specs.Steps.{items_at}
 use Rattle.pdn_plan.proofs.steps.items_at.Given as goal

@@ -1,5 +1,5 @@
 use Rattle.std.proofs.Common.{◌≡◌, take, map}
-use Rattle.pdn_plan.specs.Columns.{place_in}
+use Rattle.pdn_tree.specs.Columns.{place_in}
 use Rattle.pdn_plan.specs.Steps.{key_at}
 use Rattle.pdn_plan.proofs.steps.keys_in.Given as goal
 

@@ -2,7 +2,7 @@ use Rattle.std.proofs.Common.{length, ap, sym, ◌∙◌}
 use Rattle.pdn_base.specs.declared.site.Site.TheVariants.{A, B}
 use Rattle.pdn_dealer.specs.Sections.{layout_of}
 use Rattle.pdn_gmw.proofs.Meeting.{length-first_words, part_fits, halves_of_section}
-use Rattle.pdn_gmw.proofs.tests.halves.Goals as goal
+use Rattle.pdn_protocol_tests.proofs.halves.halves.Goals as goal
 
 pub split-requires : goal.split-requires
 split-requires g c = ap length c.in_ok-section.ensures ∙ length-first_words _ _ ∙ c.section_len.ensures

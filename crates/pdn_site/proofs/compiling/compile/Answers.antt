@@ -1,6 +1,6 @@
 use Rattle.std.proofs.Common.{◌≡◌, ◌∙◌, ap, sym, subst, Ok, List, ◌∷◌, []}
-use Rattle.pdn_plan.specs.Plans.{PlanModel}
-use Rattle.pdn_plan.specs.declared.node.Node.{Node}
+use Rattle.pdn_tree.specs.Plans.{PlanModel}
+use Rattle.pdn_tree.specs.declared.node.Node.{Node}
 use Rattle.pdn_level.specs.Levels.{segments_of}
 use Rattle.pdn_site.specs.Models.{UnitModel}
 use Rattle.pdn_site.specs.Compiling.{compiled, IsTooLarge, root_shape}

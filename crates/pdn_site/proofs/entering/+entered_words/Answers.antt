@@ -1,6 +1,6 @@
 use Rattle.std.proofs.Common.{rules, ◌≡◌, ◌∙◌, ◌++◌, sym, ap, ap₂, drop, List, ℕ}
 use Rattle.std.proofs.lemmas.Result.{IfOk-weaker}
-use Rattle.pdn_plan.specs.declared.node.Node.{Node}
+use Rattle.pdn_tree.specs.declared.node.Node.{Node}
 use Rattle.pdn_level.specs.declared.staged.Leaf.{Leaf}
 use Rattle.pdn_site.specs.Narrowing.{scans}
 use Rattle.pdn_site.specs.Entering.{leaf_words, entered_words}

@@ -9,9 +9,9 @@ use Rattle.pdn_circuit.proofs.builder.Builder.agree.Goals as goal
 
 pub loop-k-init : goal.loop-k-init
 loop-k-init c = record {
-  along = agree_begin c.args.self.now c.args.x.now c.args.y.now _ c.new-planes.ensures.items;
+  along = agree_begin c.args.self.now c.args.x.now c.args.y.now _ c.in_ok-planes.ensures.items;
   longer = omega arith;
-  there = there_none _ _ c.new-planes.ensures.items;
+  there = there_none _ _ c.in_ok-planes.ensures.items;
 }
 
 pub returns-in_err-agree-clause-made : goal.returns-in_err-agree-clause-made
@@ -19,7 +19,7 @@ returns-in_err-agree-clause-made c =
     let k = c.loop-k.k in
     let xs = c.args.x.now in
     let ys = c.args.y.now in
-    exit_tries_list _ _ (agree_gates xs ys) _ _ c.from_residual.ensures.1
+    exit_tries_list _ _ (agree_gates xs ys) _ _ c.from_residual-in_err-agree.ensures.1
     (agree_stops _ _ _ (get_or xs k 0) (get_or ys k 0) (drop (k + 1) xs) (drop (k + 1) ys) _ _ _ (drop_more xs k 0 c.loop-k-test.true) (drop_more ys k 0 (omega (arith, c.requires.widths))) c.loop-k.invariant.along _ _ c.in_err-agree.ensures.made)
 
 pub returns-in_err-push-clause-made : goal.returns-in_err-push-clause-made

@@ -1,80 +1,52 @@
-use Rattle.std.proofs.Common.{◌≡◌, ◌<◌, ℕ, List, length, set, ⊎_elim, ap, sym, ◌∙◌, subst, refl, arith}
+use Rattle.std.proofs.Common.{◌≡◌, ◌<◌, ◌≤◌, ◌+◌, ◌*◌, ◌∷◌, [], ℕ, List, length, map, take, refl, subst, sym, ap, ◌∙◌, arith}
+use Rattle.std.proofs.lemmas.List.{length-map, with_items_is}
 use Rattle.pdn_circuit.specs.Gates.{Net}
 use Rattle.pdn_dealer.specs.Sections.{five_count}
-use Rattle.pdn_gmw.specs.Halves.{HalfWords, masked_from, half_walk}
-use Rattle.pdn_gmw.specs.Known.{IsAt, IsAndAt}
-use Rattle.pdn_gmw.specs.Steps.{HalfState, masked_words}
-use Rattle.pdn_gmw.specs.Shares.{Masked}
-use Rattle.std.proofs.lemmas.List.{length-set}
-use Rattle.pdn_gmw.proofs.Progress.{ands_left, ands_through, and_found, length-sent_words}
-use Rattle.pdn_gmw.proofs.Frames.{operands_below, sent_next, one_frame, two_written, sends_next_frame, is_over}
+use Rattle.pdn_gmw.specs.declared.stage.Stage.{Stage}
+use Rattle.pdn_gmw.specs.Shares.{GateView}
+use Rattle.pdn_gmw.specs.Layers.{LayerAnd, LayerWords, no_layer, layer_of}
+use Rattle.pdn_gmw.specs.Known.{HeldWords, held, own_triple, received, AndsThere}
+use Rattle.pdn_gmw.specs.Places.{state_of, AtStage}
+use Rattle.pdn_gmw.specs.Steps.{HalfState, frame_count, next_frame}
+use Rattle.pdn_gmw.proofs.Stepping.{ands_there, layer_read, frame_made}
 use Rattle.pdn_gmw.proofs.half.Half.begin_round.Goals as goal
 
-pub masked-masked-requires-clause-triple : goal.masked-masked-requires-clause-triple
-masked-masked-requires-clause-triple c =
-    let found = c.in-Some.ensures in
-    let is = and_found c.self.inside.circuit.gates c.advance-self-inside.result.gates c.in-Some.x c.in-Some.y found.0 found.1 in
-    omega (arith, c.self.invariant.fits.triples, ands_left c.self.inside.holdings c.as_slice.result.now c.self.inside.circuit c.advance-self-inside.result.gates c.advance-self-inside.result.inputs c.advance-self-inside.result.ands c.advance-self-inside.new.shares.items c.advance-self-inside.ensures.place is)
-
-pub masked-masked-requires-clause-x : goal.masked-masked-requires-clause-x
-masked-masked-requires-clause-x c =
-    let found = c.in-Some.ensures in
-    let below = operands_below c.self.inside.circuit c.advance-self-inside.result.gates c.in-Some.x c.in-Some.y c.self.invariant.circuit found.0 found.1 in
-    omega (arith, below.0, found.0, c.advance-self-inside.ensures.long, ap length c.as_slice-in-Some.ensures.value)
-
-pub masked-masked-requires-clause-y : goal.masked-masked-requires-clause-y
-masked-masked-requires-clause-y c =
-    let found = c.in-Some.ensures in
-    let below = operands_below c.self.inside.circuit c.advance-self-inside.result.gates c.in-Some.x c.in-Some.y c.self.invariant.circuit found.0 found.1 in
-    omega (arith, below.1, found.0, c.advance-self-inside.ensures.long, ap length c.as_slice-in-Some.ensures.value)
+pub write_frame-requires-clause-there : goal.write_frame-requires-clause-there
+write_frame-requires-clause-there c =
+    let inv = c.self.invariant in
+    let net : Net = c.self.inside.circuit in
+    let d : ℕ = c.self.inside.taken + 1 in
+    let within : d ≤ frame_count net = omega (arith, c.if-self-len.true, c.len.ensures, inv.layers.long) in
+    let ands : c.as_slice.result.now ≡ (layer_of net.gates d).ands
+    = c.as_slice.ensures.value ∙ ap (λ (l : LayerWords). l.ands) (c.behind-self.view_is ∙ layer_read net c.self.inside.layers.items d c.index.result.now inv.layers within c.index.ensures) in
+    let long : length c.self.inside.views.items ≡ five_count net = sym (length-map c.self.inside.views.items own_triple) ∙ inv.fits.triples in
+    subst (λ (ss : List LayerAnd). AndsThere ss (length c.as_slice-then-self-len.result.now) (length c.as_slice-then-self-len-2.result.now)) (sym ands)
+    (ands_there net d (length c.as_slice-then-self-len.result.now) (length c.as_slice-then-self-len-2.result.now) inv.circuit (ap length c.as_slice-then-self-len.ensures.value ∙ long) (ap length c.as_slice-then-self-len-2.ensures.value ∙ inv.shares))
 
 pub invariant_of-self : goal.invariant_of-self
 invariant_of-self c =
     let inv = c.self.invariant in
     let net : Net = c.self.inside.circuit in
-    let h : HalfWords = c.self.inside.holdings in
-    let heard : List Masked = c.self.inside.heard.items in
-    let k : ℕ = c.advance-self-inside.result.gates in
-    let inputs : ℕ = c.advance-self-inside.result.inputs in
-    let ands : ℕ = c.advance-self-inside.result.ands in
-    let shares : List ℕ = c.advance-self-inside.new.shares.items in
-    let at : IsAt h heard net.gates k inputs ands shares = subst (λ (ms : List Masked). IsAt h ms net.gates k inputs ands shares) c.as_slice.ensures.value c.advance-self-inside.ensures.place in
-    let found = c.in-Some.ensures in
-    let is = and_found net.gates k c.in-Some.x c.in-Some.y found.0 found.1 in
-    let m : Masked = c.masked-masked.result in
-    let mine : m ≡ masked_from h shares ands c.in-Some.x c.in-Some.y
-    = c.masked-masked.ensures ∙ ap (λ (xs : List ℕ). masked_from h xs ands c.in-Some.x c.in-Some.y) c.as_slice-in-Some.ensures.value in
-    let sent = sent_next net h heard k inputs ands c.in-Some.x c.in-Some.y shares inv.circuit at found.0 found.1 in
+    let d : ℕ = c.self.inside.taken + 1 in
+    let within : d ≤ frame_count net = omega (arith, c.if-self-len.true, c.len.ensures, inv.layers.long) in
+    let ands : c.as_slice.result.now ≡ (layer_of net.gates d).ands
+    = c.as_slice.ensures.value ∙ ap (λ (l : LayerWords). l.ands) (c.behind-self.view_is ∙ layer_read net c.self.inside.layers.items d c.index.result.now inv.layers within c.index.ensures) in
+    let long : length c.write_frame.new.frame ≡ length c.self.inside.frame.items = c.write_frame.ensures.long ∙ ap length c.as_mut_slice.ensures.value in
+    let items = with_items_is c.self.inside.frame c.write_frame.new.frame (c.write_frame.ensures.long ∙ c.as_mut_slice.ensures.len) in
     record {
       circuit = inv.circuit;
       fits = inv.fits;
-      heard = inv.heard;
-      shares = c.advance-self-inside.ensures.long;
-      place = at;
-      frame = length-set (set c.self.inside.frame.items 0 m.d) 1 m.e ∙ length-set c.self.inside.frame.items 0 m.d ∙ inv.frame;
+      layers = inv.layers;
+      own_r = inv.own_r;
+      other_r = inv.other_r;
+      shares = inv.shares;
+      taken = inv.taken;
+      known = inv.known;
+      frame = λ k b. let f = inv.frame k b in subst (λ (xs : List ℕ). 2 * length (layer_of net.gates k).ands ≤ length xs) (sym items) (omega (arith, f, long));
       outputs = inv.outputs;
       stage = (
-        is,
-        two_written c.self.inside.frame.items m.d m.e inv.frame
-            ∙ ap masked_words (mine ∙ sym sent)
-            ∙ sym (one_frame net ands (half_walk h heard net.gates).sent (ands_left h heard net k inputs ands shares at is) (length-sent_words h heard net.gates)),
+        omega (arith, within),
+        ap (take (2 * length (layer_of net.gates d).ands)) items ∙ frame_made c.self.inside.holdings c.self.inside.views.items c.as_slice-then-self-len.result.now net c.self.inside.taken c.self.inside.shares.items c.as_slice-then-self-len-2.result.now c.write_frame.new.frame c.as_slice.result.now
+            inv.circuit inv.known ands c.as_slice-then-self-len.ensures.value c.as_slice-then-self-len-2.ensures.value c.write_frame.ensures.words,
       );
     }
-
-pub returns-in-Some : goal.returns-in-Some
-returns-in-Some c =
-    let found = c.in-Some.ensures in
-    let is = and_found c.self.inside.circuit.gates c.advance-self-inside.result.gates c.in-Some.x c.in-Some.y found.0 found.1 in
-    let left = ands_left c.self.inside.holdings c.as_slice.result.now c.self.inside.circuit c.advance-self-inside.result.gates c.advance-self-inside.result.inputs c.advance-self-inside.result.ands c.advance-self-inside.new.shares.items c.advance-self-inside.ensures.place is in
-    rw (sym c.self.view_is)
-    (sends_next_frame c.self.inside.circuit c.self.inside.holdings c.self.inside.heard.items c.self.inside.place.ands c.advance-self-inside.result.ands c.self.inside.stage
-    (ap (λ (s : HalfState). s.stage) c.self.view_is ∙ c.requires) c.advance-self-inside.ensures.ands (omega (arith, left, c.advance-self-inside.ensures.ands)))
-
-pub returns-in-None : goal.returns-in-None
-returns-in-None c =
-    let through = ⊎_elim (λ (is : IsAndAt c.self.inside.circuit.gates c.advance-self-inside.result.gates). absurd (c.in-None.ensures is))
-    (λ e. ands_through c.self.inside.holdings c.as_slice.result.now c.self.inside.circuit c.advance-self-inside.result.gates c.advance-self-inside.result.inputs c.advance-self-inside.result.ands c.advance-self-inside.new.shares.items c.advance-self-inside.ensures.place e)
-    c.advance-self-inside.ensures.stops in
-    rw (sym c.self.view_is)
-    (is_over c.self.inside.circuit c.self.inside.holdings c.self.inside.heard.items c.self.inside.place.ands c.advance-self-inside.result.ands c.self.inside.stage
-    (ap (λ (s : HalfState). s.stage) c.self.view_is ∙ c.requires) c.advance-self-inside.ensures.ands (omega (arith, through, c.advance-self-inside.ensures.ands)))

@@ -1,0 +1,23 @@
+use Rattle.std.proofs.Common.{length, ◌+◌, ◌-◌, ◌≡◌, ◌≤◌, take}
+use Rattle.pdn_base.specs.Words.{and_lists}
+use Rattle.pdn_base.proofs.kernels.and_words.Given as goal
+
+abbrev pub invariant-loop-i : goal.invariant-loop-i
+invariant-loop-i l = record {
+  long : length l.out ≡ length l.fn.out;
+  within : l.i ≤ length l.out;
+  done : take l.i l.out ≡ take l.i (and_lists l.a l.b);
+}
+
+abbrev pub decreases-loop-i : goal.decreases-loop-i
+decreases-loop-i l = length l.initial.out + 1 - l.i
+
+abbrev pub invariant-loop-i-2 : goal.invariant-loop-i-2
+invariant-loop-i-2 l = record {
+  long : length l.out ≡ length l.fn.out;
+  within : l.i ≤ length l.out;
+  done : take l.i l.out ≡ take l.i (and_lists l.a l.b);
+}
+
+abbrev pub decreases-loop-i-2 : goal.decreases-loop-i-2
+decreases-loop-i-2 l = length l.initial.out - l.i

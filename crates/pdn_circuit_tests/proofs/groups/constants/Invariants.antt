@@ -1,9 +1,0 @@
-use Rattle.std.proofs.Common.{◌≡◌, ◌≤◌, ◌<◌, length}
-use Rattle.std.specs.List.{All}
-use Rattle.pdn_obl_group.proofs.tests.constants.Given as goal
-
-abbrev pub invariant-loop-k : goal.invariant-loop-k
-invariant-loop-k l = record {
-  there : All (λ gate. gate < length l.b.gates) l.gates.items;
-  count : length l.gates.items ≡ l.k;
-}

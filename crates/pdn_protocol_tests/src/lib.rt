@@ -1,0 +1,7 @@
+//! What dealers deal, and what two halves send each other and put out. Nothing but tests of public calls.
+#![tactic(auto)]
+
+#[cfg(test)]
+mod dealers;
+#[cfg(test)]
+mod halves;

@@ -1,0 +1,3 @@
+pub mod ColumnLaws
+pub mod NodeLaws
+pub mod ShapeLaws

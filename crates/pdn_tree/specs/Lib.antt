@@ -1,0 +1,5 @@
+pub mod Meaning
+pub mod Shapes
+pub mod Plans
+pub mod Columns
+pub mod Walks
