@@ -4,7 +4,7 @@ ghost use Rattle.pdn_level.specs.Levels.{segments_of};
 
 use crate::plans::{plan_of, schema_of};
 use pdn_base::{Memory, Site, Value};
-use pdn_circuit::{Circuit, Gate};
+use pdn_circuit::{Circuit, Gate, gate_depths};
 use pdn_level::{Staged, levels};
 use pdn_plan::Plan;
 use pdn_schema::Schema;
@@ -146,12 +146,24 @@ fn is_plain(unit: &Unit, of_a: bool, value: u32, len: u32) -> bool {
         && unit.circuit.is_none()
 }
 
+// How many frames each half of a unit's run sends: as many as its deepest gate is deep.
+fn depth_of(alloc: Global, unit: &Unit) -> Result<u32, Memory> {
+    let mut deepest = 0;
+    if let Some(circuit) = &unit.circuit {
+        for depth in &gate_depths(alloc, circuit)? {
+            deepest = deepest.max(*depth);
+        }
+    }
+    Ok(deepest)
+}
+
 #[test]
 fn one_count_is_one_unit_of_96_and_gates(rt: HostRuntime) -> Result<(), Fail> {
     let sql = "SELECT COUNT(*) FROM t WHERE c = 5;";
     let units = units_of(rt.alloc(), SMALL, sql, &[]).map_err(|_| Memory)?;
     assert_eq!(rt; units.units.len(), 1);
     assert!(rt; is_root(&units.units[0], 1, (1, 1, 0, 96, 33)));
+    assert_eq!(rt; depth_of(rt.alloc(), &units.units[0])?, 5);
     Ok(())
 }
 

@@ -8,7 +8,7 @@ ghost use Rattle.pdn_gmw.specs.Pairs.{ArePair};
 use pdn_base::{Memory, Site, Word};
 use pdn_circuit::{Builder, Circuit};
 use pdn_dealer::{ChaChaDeal, Deal, ListDeal, section_len};
-use pdn_gmw::{FrameErr, Half, Step, run_pair};
+use pdn_gmw::{FrameErr, Half, Step, UnitView, run_pair};
 use std::alloc::Global;
 use std::test::Fail;
 
@@ -129,6 +129,79 @@ fn is_done(half: &mut Half) -> bool
     }
 }
 
+// A's or B's triple of the one And gate, and the two words that it received.
+fn numbers_of(view: &UnitView) -> Option<(u64, u64, u64, u64, u64)> {
+    let gate = view.gates.first()?;
+    Some((
+        gate.a.to_u64(),
+        gate.b.to_u64(),
+        gate.c.to_u64(),
+        gate.d.to_u64(),
+        gate.e.to_u64(),
+    ))
+}
+
+// Two And gates, of which the second reads the first where they are a chain.
+fn two_ands(alloc: Global, is_chain: bool) -> Result<Circuit, Fail> {
+    let mut builder = Builder::new(alloc, 2, 10)?;
+    let x = builder.input(Site::A)?;
+    let y = builder.input(Site::B)?;
+    let left = builder.and(x, y)?;
+    let right = if is_chain {
+        builder.and(left, y)?
+    } else {
+        builder.and(y, x)?
+    };
+    let mut outputs = Vec::new(alloc);
+    outputs.push(right)?;
+    Ok(builder.finish(outputs, false))
+}
+
+fn waits(half: &mut Half) -> bool
+    ensures { IsTrue result → half.new.stage ≡ Wanting }
+{
+    match half.next() {
+        Step::Want(_) => true,
+        _ => false,
+    }
+}
+
+// How many frames a half sends, and how many words in all, where the other side's words are zeros.
+fn frames_of(alloc: Global, half: &mut Half) -> Result<(u32, u32), Fail> {
+    let (mut count, mut total) = (0u32, 0u32);
+    for _ in 0..100 {
+        let sent = match half.next() {
+            Step::Send(frame) => frame.len() as u32,
+            _ => return Ok((count, total)),
+        };
+        count = count.saturating_add(1);
+        total = total.saturating_add(sent);
+        if !waits(half) {
+            return Ok((0, 0));
+        }
+        let zeros = vec![in alloc; Word::from_u64(0); sent as usize]?;
+        if half.take(zeros.as_slice()).is_err() {
+            return Ok((0, 0));
+        }
+    }
+    Ok((count, total))
+}
+
+#[test]
+fn and_gates_of_one_depth_share_a_frame(rt: HostRuntime) -> Result<(), Fail> {
+    let alloc = rt.alloc();
+    let deal = ListDeal::new(Vec::new(alloc));
+    for (is_chain, frames) in [(false, (1, 4)), (true, (2, 4))] {
+        let circuit = two_ands(alloc, is_chain)?;
+        assert!(rt; circuit.input_count(Site::A) == 1 && circuit.input_count(Site::B) == 1);
+        assert!(rt; circuit.given_count() == 0);
+        let (mut half_a, mut half_b) = halves(alloc, &circuit, &deal, &[0xf0], &[0x3c])?;
+        assert_eq!(rt; frames_of(alloc, &mut half_a)?, frames);
+        assert_eq!(rt; frames_of(alloc, &mut half_b)?, frames);
+    }
+    Ok(())
+}
+
 #[test]
 fn a_short_frame_is_refused_and_the_right_one_still_taken(rt: HostRuntime) -> Result<(), Fail> {
     let alloc = rt.alloc();
@@ -151,6 +224,11 @@ fn a_short_frame_is_refused_and_the_right_one_still_taken(rt: HostRuntime) -> Re
             assert!(rt; is_done(&mut half_a));
             let finished = half_a.finish();
             assert_eq!(rt; finished.outputs(), [Word::from_u64(0x79)].as_slice());
+            let seen = finished.view();
+            assert_eq!(rt; first(seen.own.as_slice()), 0x0f);
+            assert_eq!(rt; first(seen.other.as_slice()), 0x33);
+            assert_eq!(rt; first(seen.masks.as_slice()), 0x01);
+            assert_eq!(rt; numbers_of(seen), Some((0x55, 0x33, 0xaa, 0x00, 0xf0)));
         }
     }
     Ok(())

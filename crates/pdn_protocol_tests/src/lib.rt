@@ -1,7 +1,10 @@
-//! What dealers deal, and what two halves send each other and put out. Nothing but tests of public calls.
+//! Lists of words, what dealers deal, and what two halves send each other, see and put out. Nothing but tests of public
+//! calls.
 #![tactic(auto)]
 
 #[cfg(test)]
 mod dealers;
 #[cfg(test)]
 mod halves;
+#[cfg(test)]
+mod kernels;

@@ -1,5 +1,5 @@
 -- What a program takes up before its command: the key of the tape, and the rows of the sites' files.
-use Rattle.std.specs.Prelude.{◌≡◌, ◌⊎◌, ℕ, ◌-◌, List, [], ◌∷◌, ◌++◌, ◌&&◌, ◌==◌, nat_lt, length, take, slice_index, Bool, true, false, Option, None, Some, Result, Ok, Err, IfSome, codes, if◌then◌else◌}
+use Rattle.std.specs.Prelude.{◌≡◌, ◌⊎◌, ℕ, ◌-◌, List, [], ◌∷◌, ◌++◌, ◌&&◌, ◌==◌, nat_lt, length, take, slice_index, Bool, true, false, Option, None, Some, Ok, Err, IfSome, codes, if◌then◌else◌}
 use Rattle.std.specs.Result.{result_ok}
 use Rattle.std.specs.String.{string_bytes}
 use Rattle.csv.specs.Reading.{records, default_config, strip_bom}

@@ -1,6 +1,6 @@
 use Rattle.std.proofs.Common.{◌≡◌, ◌<◌, length, sym, ap, ◌∙◌, subst}
 use Rattle.std.proofs.lemmas.Result.{IfOk-weaker}
-use Rattle.core.specs.Option.{IsSome}
+use Rattle.std.specs.Prelude.{IsSome}
 use Rattle.pdn_site.specs.declared.unit.UnitKind.TheVariants.{Secure}
 use Rattle.pdn_site.specs.Models.{UnitModel}
 use Rattle.pdn_broker.specs.Prepared.{PreparedModel, IsPrepared}
