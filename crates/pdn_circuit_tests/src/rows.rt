@@ -33,13 +33,13 @@ fn rows_five_and_seven_in_three_are_these_words(rt: HostRuntime) -> Result<(), F
     let alloc = rt.alloc();
     let rows = rows_of(alloc, &[5, 7])?;
     let words = encode(alloc, &rows, &[Kind::Int], 3)?;
+    let again = decode(alloc, &words, &[Kind::Int], 3)?;
+    assert!(rt; again.as_slice() == rows.as_slice());
     assert!(rt; words.len() == 33);
     for (word, wanted) in words.iter().zip([3, 3, 2, 3]) {
         assert_eq!(rt; word.to_u64(), wanted);
     }
     assert!(rt; words[4..].iter().all(|word| word.to_u64() == 0));
-    let again = decode(alloc, &words, &[Kind::Int], 3)?;
-    assert!(rt; again.as_slice() == rows.as_slice());
     assert_eq!(rt; (width(Kind::Int), width(Kind::Code)), (32, 64));
     Ok(())
 }
