@@ -1,0 +1,1 @@
+WITH u AS (SELECT DISTINCT a.x1, a.x2, a.x3 FROM p a JOIN q b ON a.c1 <> b.d1 AND a.c2 <> b.d2 AND a.c3 <> b.d3 AND a.c4 <> b.d4 AND a.c5 <> b.d5 AND b.d6 <> b.d7 AND b.d8 <> a.c1 JOIN q c ON a.c1 <> a.c2 JOIN q d ON a.c1 <> a.c2) SELECT u.x1 FROM u JOIN q e ON u.x2 <> u.x3 AND e.d1 <> e.d2 AND e.d3 <> e.d4 AND e.d5 <> e.d6 AND e.d7 <> e.d8;
