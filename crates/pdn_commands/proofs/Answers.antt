@@ -20,15 +20,16 @@ use Rattle.pdn_tree.specs.Plans.{PlanModel}
 use Rattle.pdn_tree.specs.declared.node.Node.{Node}
 use Rattle.pdn_site.specs.Models.{UnitModel}
 use Rattle.pdn_site.specs.Compiling.{Compiled}
-use Rattle.pdn_commands.specs.declared.stop.Stop.{Stop}
+use Rattle.pdn_script.specs.declared.stop.Stop.{Stop}
 use Rattle.pdn_commands.specs.Answering.{scans, asking_if, asking, wrong_column, or_wrong, judging, units_over, or_large, answer_text, said, query_script, queries_script, KeepsIf, KeepsAll, AllValid, IsTaken, IsAnswer}
 use Rattle.pdn_commands.specs.Gathering.{FailsIf, NoTables, WrongTable, LargeUnit, NotReady, IsMeant}
-use Rattle.pdn_commands.specs.Questions.{Told, told_by, asked_of, who_of, kept_at, Kept, Valid, Broken, Hidden, IsBound, QueriesIn, AreQueriesIn}
+use Rattle.pdn_commands.specs.Questions.{Told, told_by, asked_of, who_of, kept_at, Kept, Valid, Broken, Hidden, IsBound, QueriesIn, AreQueriesIn, questions}
 use Rattle.pdn_commands.specs.Commands.{run_script}
 use Rattle.pdn_commands.specs.Script.{Script, Finish, Say, Ask, or_fault, binding}
 use Rattle.pdn_commands.specs.Stops.{stop_of, WrongRows, IsNoPlan, StopsQuery, Inputs, AreNoQueries}
 use Rattle.pdn_commands.specs.Walk.{Goes, End, Finished, NoMemory, PutFailed, Counts, RoseIn, Wrote, counts}
-use Rattle.pdn_commands.proofs.Walks.{inputs_on, refused_by, short_of, failed_at, appends_nothing, appends_both, NotFallen, goes_wider, goes_within}
+use Rattle.pdn_script.proofs.Going.{refused_by, short_of, failed_at, appends_nothing, appends_both, goes_within}
+use Rattle.pdn_commands.proofs.Walks.{inputs_on, NotFallen, goes_wider}
 
 -- ---- tables that a site gives
 
@@ -104,14 +105,14 @@ module _ (rose : Who → Type 0) where
 
   failed_if : (told : Told) (site : Site) (b : Bool) (t : TableModel) (next : Rows → Script) (risen : Type 0) (stop : Stop) → (risen → rose (who_of site)) → FailsIf b risen (who_of site) stop →
       Goes rose told (asking_if b site t next) [] (stop_of stop) told
-  failed_if told site true t next risen stop up (inl (rise, is)) = failed_at rose told (Kept site t.name) next (who_of site) stop refl (up rise) refl is
-  failed_if told site true t next risen stop up (inr short) = short_of rose told (Ask (Kept site t.name) next) stop short
-  failed_if told site false t next risen stop up short = short_of rose told (next []) stop short
+  failed_if told site true t next risen stop up (inl (rise, is)) = failed_at questions rose told (Kept site t.name) next (who_of site) stop refl (up rise) refl is
+  failed_if told site true t next risen stop up (inr short) = short_of questions rose told (Ask (Kept site t.name) next) stop short
+  failed_if told site false t next risen stop up short = short_of questions rose told (next []) stop short
 
   -- a site failed
   no_tables : (told : Told) (site : Site) (root : Node) (at : ℕ) (ts : List TableModel) (next : List Rows → Script) (risen : Type 0) (stop : Stop) → (risen → rose (who_of site)) →
       NoTables risen (kept_at told site) site root at ts stop → Goes rose told (asking site root at ts next) [] (stop_of stop) told
-  no_tables told site root at [] next risen stop up short = short_of rose told (next []) stop short
+  no_tables told site root at [] next risen stop up short = short_of questions rose told (next []) stop short
   no_tables told site root at (t ∷ ts) next risen stop up (inl fails) = failed_if told site (scans at root) t _ risen stop up fails
   no_tables told site root at (t ∷ ts) next risen stop up (inr (rows, h, later)) = asked_if told site (scans at root) t rows _ [] (stop_of stop) told h
       (no_tables told site root (at + 1) ts (λ more. next (rows ∷ more)) risen stop up later)
@@ -126,7 +127,7 @@ module _ (rose : Who → Type 0) where
   -- rows that are refused
   wrong_rows : (told : Told) (site : Site) (at : ℕ) (t : TableModel) (rows : Rows) (next : Script) (stop : Stop) → WrongRows site at t rows stop →
       Goes rose told (Ask (Valid t rows) (or_wrong site at t next)) [] (stop_of stop) told
-  wrong_rows told site at t rows next stop w = inr (inr (Some w.wrong, w.is, refused_by rose told t.name (wrong_column t w.wrong) (status.BadRows site at w.wrong) _ stop w.refused refl))
+  wrong_rows told site at t rows next stop w = inr (inr (Some w.wrong, w.is, refused_by questions rose told t.name (wrong_column t w.wrong) (status.BadRows site at w.wrong) _ stop w.refused refl))
 
   -- those of the table k places after the first
   wrong_after : (told : Told) (site : Site) (at : ℕ) (ts : List TableModel) (tables : List Rows) (next : Script) (k : ℕ) (stop : Stop) → length tables ≡ length ts → k < length ts →
@@ -162,7 +163,7 @@ module _ (rose : Who → Type 0) where
 
   large : (told : Told) (next : Script) (s : SchemaModel) (root : Node) (a b : List Rows) (stop : Stop) → LargeUnit s root a b stop → Goes rose told (or_large next (units_over s root a b)) [] (stop_of stop) told
   large told next s root a b stop w = subst (λ (c : Compiled). Goes rose told (or_large next c) [] (stop_of stop) told) (sym w.passes)
-      (refused_by rose told [] [] (status.TooLarge w.limit w.unit) _ stop w.refused refl)
+      (refused_by questions rose told [] [] (status.TooLarge w.limit w.unit) _ stop w.refused refl)
 
   -- what isn't ready
   not_ready : (told : Told) (s : SchemaModel) (ticket : ℕ) (query : Query) (plan : PlanModel) (a b : List Rows) (next : Script) (stop : Stop) → length a ≡ length s.tables → length b ≡ length s.tables →
@@ -171,15 +172,15 @@ module _ (rose : Who → Type 0) where
   not_ready told s ticket query plan a b next stop ea eb (inr (inl (va, w))) = all_judged told s A a _ [] (stop_of stop) told va (wrong_table told s B b _ stop eb w)
   not_ready told s ticket query plan a b next stop ea eb (inr (inr (inl (va, vb, w)))) =
       all_judged told s A a _ [] (stop_of stop) told va (all_judged told s B b _ [] (stop_of stop) told vb (large told _ s plan.root a b stop w))
-  not_ready told s ticket query plan a b next stop ea eb (inr (inr (inr short))) = short_of rose told (said s ticket query plan a b next) stop short
+  not_ready told s ticket query plan a b next stop ea eb (inr (inr (inr short))) = short_of questions rose told (said s ticket query plan a b next) stop short
 
   -- ---- a query
 
   -- a query that has no plan
   pub no_plan : (told : Told) (s : SchemaModel) (query : Query) (next : PlanModel → Script) (stop : Stop) → IsNoPlan s query stop → Goes rose told (binding s query next) [] (stop_of stop) told
-  no_plan told s query next stop (inl (kind, name, is, refused)) = inr (inr (Err (Broken kind name), is, refused_by rose told [] [] (status.Plan kind name) _ stop refused refl))
-  no_plan told s query next stop (inr (inl (column, label, is, refused))) = inr (inr (Err (Hidden column label), is, refused_by rose told [] [] (status.Forbidden column label) _ stop refused refl))
-  no_plan told s query next stop (inr (inr short)) = short_of rose told (binding s query next) stop short
+  no_plan told s query next stop (inl (kind, name, is, refused)) = inr (inr (Err (Broken kind name), is, refused_by questions rose told [] [] (status.Plan kind name) _ stop refused refl))
+  no_plan told s query next stop (inr (inl (column, label, is, refused))) = inr (inr (Err (Hidden column label), is, refused_by questions rose told [] [] (status.Forbidden column label) _ stop refused refl))
+  no_plan told s query next stop (inr (inr short)) = short_of questions rose told (binding s query next) stop short
 
   -- one that has one
   pub bound_on : (told : Told) (s : SchemaModel) (query : Query) (plan : PlanModel) (next : PlanModel → Script) (out : List ℕ) (end : End) (now : Told) → IsBound s query (Ok plan) →
@@ -305,7 +306,7 @@ only_sites a b k l s z Desk r = r
 
 pub sites_alone : (a b k l s z : ℕ) (kept_a kept_b : Option (List BatchHeld)) (schema : SchemaModel) (ticket : ℕ) (query : Query) (out : List ℕ) (stop : Stop) →
     StopsQuery (RoseIn (counts 0 a b 0) (counts 0 k l 0)) kept_a kept_b schema ticket query out stop → StopsQuery (RoseIn (counts 0 a b s) (counts 0 k l z)) kept_a kept_b schema ticket query out stop
-sites_alone a b k l s z kept_a kept_b schema ticket query out stop w files rest = goes_within _ _ (only_sites a b k l s z) (told_by files kept_a kept_b) (query_script schema ticket query rest) out (stop_of stop) (told_by files kept_a kept_b) (w files rest)
+sites_alone a b k l s z kept_a kept_b schema ticket query out stop w files rest = goes_within questions _ _ (only_sites a b k l s z) (told_by files kept_a kept_b) (query_script schema ticket query rest) out (stop_of stop) (told_by files kept_a kept_b) (w files rest)
 
 -- queries that asked no file, beside any files
 no_files : (f g a b k l s z : ℕ) (who : Who) → RoseIn (counts 0 a b s) (counts 0 k l z) who → RoseIn (counts f a b s) (counts g k l z) who
@@ -317,14 +318,14 @@ no_files f g a b k l s z Desk r = r
 
 pub beside_files : (f g a b k l s z : ℕ) (told : Told) (script : Script) (out : List ℕ) (end : End) (now : Told) → Goes (RoseIn (counts 0 a b s) (counts 0 k l z)) told script out end now →
     Goes (RoseIn (counts f a b s) (counts g k l z)) told script out end now
-beside_files f g a b k l s z told script out end now w = goes_within _ _ (no_files f g a b k l s z) told script out end now w
+beside_files f g a b k l s z told script out end now w = goes_within questions _ _ (no_files f g a b k l s z) told script out end now w
 
 -- ---- a run
 module _ (rose : Who → Type 0) (told : Told) (file : List ℕ) (s : SchemaModel) (sql : List ℕ) (i : Inputs told.files file s sql) where
   -- no queries
   pub run_no_queries : (stop : Stop) → AreNoQueries sql stop → Goes rose told (run_script file) [] (stop_of stop) told
-  run_no_queries stop (inl (place, kind, are, is)) = inputs_on rose told file s sql _ [] (stop_of stop) told i (inr (inr (Err (place, kind), are, refused_by rose told [] [] (status.Sql place kind) _ stop is refl)))
-  run_no_queries stop (inr short) = inputs_on rose told file s sql _ [] (stop_of stop) told i (short_of rose told (Ask (QueriesIn sql) (or_fault status.Sql (queries_script s 0))) stop short)
+  run_no_queries stop (inl (place, kind, are, is)) = inputs_on rose told file s sql _ [] (stop_of stop) told i (inr (inr (Err (place, kind), are, refused_by questions rose told [] [] (status.Sql place kind) _ stop is refl)))
+  run_no_queries stop (inr short) = inputs_on rose told file s sql _ [] (stop_of stop) told i (short_of questions rose told (Ask (QueriesIn sql) (or_fault status.Sql (queries_script s 0))) stop short)
 
   -- its queries
   pub run_queries : (queries : List Query) (out : List ℕ) (end : End) → AreQueriesIn sql (Ok queries) → Goes rose told (queries_script s 0 queries) out end told → Goes rose told (run_script file) out end told

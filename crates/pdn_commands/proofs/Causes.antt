@@ -23,11 +23,12 @@ use Rattle.pdn_commands.specs.Checking.{reporting, query_report, AreReported}
 use Rattle.pdn_commands.specs.Causes.{AskedRun, AskedQueries, AskedCheck, AskedReports, AskedLoad, AskedTable, IsReached, IsAsked, IsFirstWrong, AreWrong, Cause, IsLoaded, IsDone, file_of}
 use Rattle.pdn_commands.specs.Commands.{Task, Run, Check, Load, task_of, task_script, script}
 use Rattle.pdn_commands.specs.Answering.{scans, asking_if, asking, or_wrong, judging, units_over, or_large, answer_text, said, planned_script, queries_script, KeepsIf, KeepsAll, AllValid, IsTaken, IsAnswer, AreAnswers}
-use Rattle.pdn_commands.specs.Questions.{Told, Unbound, Broken, Hidden, IsBound, Holds, Valid, IsWrong, kept_at, IsSchemaIn, AreQueriesIn, AreRowsIn, Answer, New, Again, Differs, OverRows, OverPer, Batch, Gives, after}
+use Rattle.pdn_commands.specs.Questions.{Told, Unbound, Broken, Hidden, IsBound, Holds, Valid, IsWrong, kept_at, IsSchemaIn, AreQueriesIn, AreRowsIn, Answer, New, Again, Differs, OverRows, OverPer, Batch, Gives, after, questions}
 use Rattle.pdn_commands.specs.Script.{Script, Finish, Refuse, Say, Ask, found, with_inputs, or_fault, or_unbound, answered, load_table, table_number}
 use Rattle.pdn_commands.specs.Stops.{Inputs}
 use Rattle.pdn_commands.specs.Walk.{Refusals, Texts, Follows}
-use Rattle.pdn_commands.proofs.Ends.{IsPlain, status_has, done_text}
+use Rattle.pdn_script.specs.Ways.{IsPlain}
+use Rattle.pdn_script.proofs.Ends.{status_has, done_text}
 
 -- ---- what holds of each refusal of a command's inputs
 module _ (told : Told) (P : Status → Type 0) where
@@ -207,7 +208,7 @@ module _ (rose : Who → Type 0) (told : Told) (words : List (List ℕ)) where
   refusal_plain result h = record { not_done = λ e. subst (Refused rose told words) e h; not_memory = λ e. subst (Refused rose told words) e h }
 
   pub caused : (out : List ℕ) (result : Status) (now : Told) → Follows rose told (script words) out result now → Cause rose told words result
-  caused out result now a = status_has rose (Cause rose told words) (λ who up. up) told (script words) out result now tt tt
+  caused out result now a = status_has questions rose (Cause rose told words) (λ who up. up) told (script words) out result now tt tt
       (refusals_map (Refused rose told words) (Cause rose told words) cause_of told (script words) (task_caused (task_of words) refl)) a
 
   pub all_plain : Refusals told IsPlain (script words)
@@ -318,4 +319,4 @@ module _ (told : Told) (words : List (List ℕ)) where
       load_text (record { site = site; table = table; number = number; file = file; s = s; csv = csv; asked = e; inputs = inputs }) (table_number table s) refl)
 
   pub does : (rose : Who → Type 0) (out : List ℕ) (result : Status) (now : Told) → Follows rose told (script words) out result now → result ≡ status.Done → IsDone told words out now
-  does rose out result now a done = done_text rose told (IsDone told words) (script words) out result now (all_plain rose told words) (task_text (task_of words) refl) a done
+  does rose out result now a done = done_text questions rose told (IsDone told words) (script words) out result now (all_plain rose told words) (task_text (task_of words) refl) a done

@@ -6,15 +6,16 @@ use Rattle.pdn_base.specs.declared.status.Who.TheVariants.{Sink}
 use Rattle.pdn_schema.specs.Models.{SchemaModel}
 use Rattle.pdn_schema.specs.Printing.{text_of}
 use Rattle.pdn_sql.specs.declared.query.Query.{Query}
-use Rattle.pdn_commands.specs.declared.stop.Stop.{Stop}
+use Rattle.pdn_script.specs.declared.stop.Stop.{Stop}
 use Rattle.pdn_commands.specs.Checking.{reporting, report_script, query_report, IsReported, AreReported}
 use Rattle.pdn_commands.specs.Commands.{Task, Check, task_of, task_script, script, check_script}
-use Rattle.pdn_commands.specs.Questions.{Told, QueriesIn, AreQueriesIn, IsBound}
+use Rattle.pdn_commands.specs.Questions.{Told, QueriesIn, AreQueriesIn, IsBound, questions}
 use Rattle.pdn_commands.specs.Script.{Script, Finish, Say, Ask, or_fault}
 use Rattle.pdn_commands.specs.Stops.{stop_of, Inputs, AreNoQueries, NoReport}
 use Rattle.pdn_commands.specs.Walk.{Goes, End, Finished, NoMemory, PutFailed, Wrote}
 use Rattle.pdn_commands.proofs.Answers.{bound_on, no_plan}
-use Rattle.pdn_commands.proofs.Walks.{inputs_on, refused_by, short_of}
+use Rattle.pdn_script.proofs.Going.{refused_by, short_of}
+use Rattle.pdn_commands.proofs.Walks.{inputs_on}
 
 -- ---- one query more
 module _ (s : SchemaModel) (number : ℕ) (all : List Query) (query : Query) (later : List Query) (is : all ≡ query ∷ later) where
@@ -36,15 +37,15 @@ module _ (rose : Who → Type 0) (told : Told) (s : SchemaModel) where
 
   -- one has none
   unreported_at : (number : ℕ) (queries : List Query) (next : List ℕ → Script) (stop : Stop) → NoReport s queries stop → Goes rose told (reporting s number queries next) [] (stop_of stop) told
-  unreported_at number [] next stop short = short_of rose told (next []) stop short
+  unreported_at number [] next stop short = short_of questions rose told (next []) stop short
   unreported_at number (query ∷ queries) next stop (inl none) = no_plan rose told s query _ stop none
   unreported_at number (query ∷ queries) next stop (inr (plan, binds, later)) = bound_on rose told s query plan _ [] (stop_of stop) told binds
       (unreported_at (number + 1) queries (λ xs. next (query_report s number query plan ++ xs)) stop later)
 
 module _ (rose : Who → Type 0) (told : Told) (file : List ℕ) (s : SchemaModel) (sql : List ℕ) (i : Inputs told.files file s sql) where
   pub check_no_queries : (stop : Stop) → AreNoQueries sql stop → Goes rose told (check_script file) [] (stop_of stop) told
-  check_no_queries stop (inl (place, kind, are, is)) = inputs_on rose told file s sql _ [] (stop_of stop) told i (inr (inr (Err (place, kind), are, refused_by rose told [] [] (status.Sql place kind) _ stop is refl)))
-  check_no_queries stop (inr short) = inputs_on rose told file s sql _ [] (stop_of stop) told i (short_of rose told (Ask (QueriesIn sql) (or_fault status.Sql (report_script s))) stop short)
+  check_no_queries stop (inl (place, kind, are, is)) = inputs_on rose told file s sql _ [] (stop_of stop) told i (inr (inr (Err (place, kind), are, refused_by questions rose told [] [] (status.Sql place kind) _ stop is refl)))
+  check_no_queries stop (inr short) = inputs_on rose told file s sql _ [] (stop_of stop) told i (short_of questions rose told (Ask (QueriesIn sql) (or_fault status.Sql (report_script s))) stop short)
 
   check_on : (queries : List Query) (out : List ℕ) (end : End) → AreQueriesIn sql (Ok queries) → Goes rose told (report_script s queries) out end told → Goes rose told (check_script file) out end told
   check_on queries out end are w = inputs_on rose told file s sql _ out end told i (inr (inr (Ok queries, are, w)))
@@ -54,7 +55,7 @@ module _ (rose : Who → Type 0) (told : Told) (file : List ℕ) (s : SchemaMode
     check_unreported stop none = check_on queries [] (stop_of stop) are (unreported_at rose told s 1 queries _ stop none)
 
     pub check_short : (stop : Stop) → stop_of stop ≡ NoMemory → Goes rose told (check_script file) [] (stop_of stop) told
-    check_short stop short = check_on queries [] (stop_of stop) are (short_of rose told (report_script s queries) stop short)
+    check_short stop short = check_on queries [] (stop_of stop) are (short_of questions rose told (report_script s queries) stop short)
 
     module _ (reports : List ℕ) (reported : AreReported s 1 queries reports) where
       says : (out : List ℕ) (end : End) → Goes rose told (Say (text_of s ++ reports) Finish) out end told → Goes rose told (check_script file) out end told

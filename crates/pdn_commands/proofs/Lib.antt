@@ -1,5 +1,4 @@
 pub mod Walks
-pub mod Ends
 pub mod Answers
 pub mod Loads
 pub mod Checks

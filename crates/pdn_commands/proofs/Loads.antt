@@ -11,13 +11,14 @@ use Rattle.pdn_schema.specs.Models.{SchemaModel, TableModel, table_of}
 use Rattle.pdn_keeper.specs.Batches.{BatchHeld, batch_held, IsAnswer}
 use Rattle.pdn_keeper.specs.declared.site_keeper.AddErr.TheVariants as refused
 use Rattle.std.specs.Option.{IfSome}
-use Rattle.pdn_commands.specs.declared.stop.Stop.{Stop}
-use Rattle.pdn_commands.specs.Questions.{Told, told_at, told_by, kept_at, with_kept, with_new, asked_of, who_of, Batch, AreRowsIn, Answer, New, Again, Differs, OverRows, OverPer}
+use Rattle.pdn_script.specs.declared.stop.Stop.{Stop}
+use Rattle.pdn_commands.specs.Questions.{Told, told_at, told_by, kept_at, with_kept, with_new, asked_of, who_of, Batch, AreRowsIn, Answer, New, Again, Differs, OverRows, OverPer, questions}
 use Rattle.pdn_commands.specs.Script.{Script, Ask, answered, load_rows, load_table, load_script, table_number, column_name}
 use Rattle.pdn_commands.specs.Stops.{stop_of, IsRefusal, MissedInputs, Inputs, AreNoRows, AnswersTo, Took, NotTook, IsRefusedBy}
 use Rattle.pdn_commands.specs.Commands.{Task, Load, task_of, task_script, script}
 use Rattle.pdn_commands.specs.Walk.{Goes, End, Finished, NoMemory, PutFailed, counts_at, RoseIn, Wrote}
-use Rattle.pdn_commands.proofs.Walks.{refused_by, short_of, missed_inputs, inputs_on}
+use Rattle.pdn_script.proofs.Going.{refused_by, short_of}
+use Rattle.pdn_commands.proofs.Walks.{missed_inputs, inputs_on}
 
 -- ---- what a site that tells answers
 module _ (t : TableModel) (number : ℕ) (rows : List (List Value)) where
@@ -45,9 +46,9 @@ module _ (rose : Who → Type 0) (told : Told) (site : Site) (t : TableModel) (n
   refuses : (answer : Answer) (stop : Stop) (now : Told) → now ≡ told → AnswersTo (kept_at told site) t number rows answer → IsRefusedBy t answer stop → Goes rose told asks [] (stop_of stop) now
   refuses New stop now e says is = absurd is
   refuses Again stop now e says is = absurd is
-  refuses (Differs at) stop now e says is = rw (e) (inr (inr (Differs at, says, refused_by rose told [] [] (status.BatchDiffers at) _ stop is refl)))
-  refuses OverRows stop now e says is = rw (e) (inr (inr (OverRows, says, refused_by rose told [] [] (status.OverBound None) _ stop is refl)))
-  refuses (OverPer column) stop now e says is = rw (e) (inr (inr (OverPer column, says, refused_by rose told t.name (column_name t column) (status.OverBound (Some column)) _ stop is refl)))
+  refuses (Differs at) stop now e says is = rw (e) (inr (inr (Differs at, says, refused_by questions rose told [] [] (status.BatchDiffers at) _ stop is refl)))
+  refuses OverRows stop now e says is = rw (e) (inr (inr (OverRows, says, refused_by questions rose told [] [] (status.OverBound None) _ stop is refl)))
+  refuses (OverPer column) stop now e says is = rw (e) (inr (inr (OverPer column, says, refused_by questions rose told t.name (column_name t column) (status.OverBound (Some column)) _ stop is refl)))
 
   asked_right : asked_of (Batch site t number rows) ≡ Some (who_of site)
   asked_right = refl
@@ -70,18 +71,18 @@ module _ (rose : Who → Type 0) (told : Told) (site : Site) (t : TableModel) (n
 
 module _ (rose : Who → Type 0) (told : Told) (site : Site) (table : List ℕ) (number : ℕ) (file : List ℕ) (s : SchemaModel) (csv : List ℕ) (i : Inputs told.files file s csv) where
   no_table : (stop : Stop) → table_number table s ≡ None → IsRefusal [] [] (status.Plan 1 table) stop → Goes rose told (load_script site table number file) [] (stop_of stop) told
-  no_table stop e is = inputs_on rose told file s csv _ [] (stop_of stop) told i (rw (e) (refused_by rose told [] [] (status.Plan 1 table) _ stop is refl))
+  no_table stop e is = inputs_on rose told file s csv _ [] (stop_of stop) told i (rw (e) (refused_by questions rose told [] [] (status.Plan 1 table) _ stop is refl))
 
   short_name : (stop : Stop) → stop_of stop ≡ NoMemory → Goes rose told (load_script site table number file) [] (stop_of stop) told
-  short_name stop short = inputs_on rose told file s csv _ [] (stop_of stop) told i (short_of rose told (load_table site table number s csv (table_number table s)) stop short)
+  short_name stop short = inputs_on rose told file s csv _ [] (stop_of stop) told i (short_of questions rose told (load_table site table number s csv (table_number table s)) stop short)
 
   module _ (at : ℕ) (e : table_number table s ≡ Some at) where
     on_table : (out : List ℕ) (end : End) (now : Told) → Goes rose told (load_rows site (table_of s at) number csv) out end now → Goes rose told (load_script site table number file) out end now
     on_table out end now w = inputs_on rose told file s csv _ out end now i (rw (e) w)
 
     no_rows : (stop : Stop) → AreNoRows (table_of s at) csv stop → Goes rose told (load_script site table number file) [] (stop_of stop) told
-    no_rows stop (inl (entry, cause, are, is)) = on_table [] (stop_of stop) told (inr (inr (Err (entry, cause), are, refused_by rose told [] [] (status.Csv entry cause) _ stop is refl)))
-    no_rows stop (inr short) = on_table [] (stop_of stop) told (short_of rose told (load_rows site (table_of s at) number csv) stop short)
+    no_rows stop (inl (entry, cause, are, is)) = on_table [] (stop_of stop) told (inr (inr (Err (entry, cause), are, refused_by questions rose told [] [] (status.Csv entry cause) _ stop is refl)))
+    no_rows stop (inr short) = on_table [] (stop_of stop) told (short_of questions rose told (load_rows site (table_of s at) number csv) stop short)
 
     on_rows : (rows : List (List Value)) (out : List ℕ) (end : End) (now : Told) → AreRowsIn (table_of s at) csv (Ok rows) →
         Goes rose told (Ask (Batch site (table_of s at) number rows) (answered (table_of s at) number (length rows))) out end now → Goes rose told (load_script site table number file) out end now

@@ -12,7 +12,7 @@ use Rattle.pdn_tree.specs.declared.node.Node.{Node}
 use Rattle.pdn_plan.specs.Answer.{answer}
 use Rattle.pdn_site.specs.Models.{UnitModel}
 use Rattle.pdn_keeper.specs.Batches.{BatchHeld}
-use Rattle.pdn_commands.specs.declared.stop.Stop.{Stop}
+use Rattle.pdn_script.specs.declared.stop.Stop.{Stop}
 use Rattle.pdn_commands.specs.Answering.{scans, KeepsIf, units_over}
 use Rattle.pdn_commands.specs.Questions.{who_of}
 use Rattle.pdn_commands.specs.Stops.{stop_of, IsRefusal, FailedAt, WrongRows}

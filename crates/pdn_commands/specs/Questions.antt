@@ -23,6 +23,7 @@ use Rattle.pdn_keeper.specs.Import.{imported}
 use Rattle.pdn_keeper.specs.declared.cause.CsvErr.TheVariants.{At}
 use Rattle.pdn_keeper.specs.declared.site_keeper.Added.TheVariants as added
 use Rattle.pdn_keeper.specs.declared.site_keeper.AddErr.TheVariants as refused
+use Rattle.pdn_script.specs.Rules.{Rules}
 
 pub data Question : Type 0 where
   File : List ℕ → Question  -- the bytes of the file of this name, or none
@@ -179,3 +180,7 @@ AfterFault told (QueriesIn bytes) now = now ≡ told
 AfterFault told (Bound s query) now = now ≡ told
 AfterFault told (RowsIn t bytes) now = now ≡ told
 AfterFault told (Valid t rows) now = now ≡ told
+
+-- what may be asked, and what becomes of it
+abbrev pub questions : Rules Question Told
+questions = record { Reply = Reply; asked_of = asked_of; Gives = Gives; after = after; AfterFault = AfterFault }

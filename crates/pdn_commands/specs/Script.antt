@@ -2,6 +2,8 @@
 use Rattle.std.specs.Prelude.{ℕ, ◌+◌, List, [], ◌∷◌, ◌++◌, length, position, Option, Some, None, Result, Ok, Err, codes, decimal}
 use Rattle.std.specs.List.{slice_get}
 use Rattle.std.specs.Str.{bytes_eq}
+pub use Rattle.pdn_script.specs.Scripts.{Finish, Refuse, Say, Ask, refuse}
+use Rattle.pdn_script.specs.Scripts.{Script as Tree}
 use Rattle.pdn_base.specs.Texts.{line, refusal}
 use Rattle.pdn_base.specs.declared.status.Status.{Status}
 use Rattle.pdn_base.specs.declared.status.Status.TheVariants as status
@@ -13,15 +15,9 @@ use Rattle.pdn_sql.specs.declared.query.Query.{Query}
 use Rattle.pdn_tree.specs.Plans.{PlanModel}
 use Rattle.pdn_commands.specs.Questions.{Question, File, Batch, SchemaIn, Bound, RowsIn, Reply, Unbound, Broken, Hidden, Answer, New, Again, Differs, OverRows, OverPer}
 
-pub data Script : Type 0 where
-  Finish : Script
-  Refuse : Status → List ℕ → Script  -- ends with this status and this line
-  Say : List ℕ → Script → Script  -- a text is put, in one put
-  Ask : (question : Question) → (Reply question → Script) → Script  -- goes on with the reply
-
--- a refusal that speaks of no table
-abbrev pub refuse : Status → Script
-refuse status = Refuse status (refusal [] [] status)
+-- a script of these questions
+abbrev pub Script : Type 0
+Script = Tree Question Reply
 
 -- what follows a read, or the refusal where there is no such file
 abbrev pub found : List ℕ → (List ℕ → Script) → Option (List ℕ) → Script

@@ -1,4 +1,5 @@
 -- What the code's stops stand for.
+pub use Rattle.pdn_script.specs.Stops.{stop_of, end_of, IsRefusal}
 use Rattle.std.specs.Prelude.{◌≡◌, ◌⊎◌, List, [], ◌∷◌, ℕ, Option, None, Some, Result, Ok, Err, IfSome, length, codes}
 use Rattle.std.specs.String.{string_bytes}
 use Rattle.pdn_base.specs.Texts.{refusal}
@@ -18,25 +19,11 @@ use Rattle.pdn_schema.specs.Words.{lines_of}
 use Rattle.pdn_sql.specs.declared.query.Query.{Query}
 use Rattle.pdn_tree.specs.Plans.{PlanModel}
 use Rattle.pdn_keeper.specs.Batches.{BatchHeld, batch_held, with_batch}
-use Rattle.pdn_commands.specs.declared.stop.Stop.{Stop}
-use Rattle.pdn_commands.specs.declared.stop.Stop.TheVariants as stop
+use Rattle.pdn_script.specs.declared.stop.Stop.{Stop}
 use Rattle.pdn_commands.specs.Questions.{Holds, told_by, IsBound, Broken, Hidden, Answer, New, Again, Differs, OverRows, OverPer, Answers, AreQueriesIn, AreRowsIn}
 use Rattle.pdn_commands.specs.Script.{Script, loaded_text, column_name}
 use Rattle.pdn_commands.specs.Answering.{query_script, wrong_column}
 use Rattle.pdn_commands.specs.Walk.{End, Finished, NoMemory, PutFailed, Refused, fault, Goes}
-
-abbrev pub stop_of : Stop → End
-stop_of (stop.Refused status line) = Refused status (string_bytes line)
-stop_of stop.Sink = PutFailed
-stop_of stop.Memory = NoMemory
-
-abbrev pub end_of : {T : Type 0} → Result T Stop → End
-end_of (Ok done) = Finished
-end_of (Err stop) = stop_of stop
-
--- this refusal with its line, or want of memory
-abbrev pub IsRefusal : List ℕ → List ℕ → Status → Stop → Type 0
-IsRefusal table column status stop = (stop_of stop ≡ Refused status (refusal table column status)) ⊎ (stop_of stop ≡ NoMemory)
 
 -- why a read of this name gave no bytes, of files that tell this
 abbrev pub Missed : Type 0 → Option (List ℕ → Option (List ℕ)) → List ℕ → Stop → Type 0

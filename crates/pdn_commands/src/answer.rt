@@ -19,7 +19,6 @@ ghost use Rattle.pdn_commands.specs.Walk.{RoseIn, counts};
 use crate::answer_text::answer_text;
 use crate::bound::bound;
 use crate::inputs::column_name;
-use crate::stop::{Stop, refused, refused_at};
 use crate::tables::tables_at;
 use pdn_base::{Memory, Rows, RowsErr, Site, Status, Tables};
 use pdn_broker::{PrepareErr, Prepared, answer, prepare};
@@ -27,6 +26,7 @@ use pdn_dealer::Deal;
 use pdn_keeper::SiteKeeper;
 use pdn_plan::{Plan, plan_means_answer, valid_unions_fit};
 use pdn_schema::{Schema, Table};
+use pdn_script::{Stop, refused, refused_at};
 use pdn_sql::Query;
 use std::alloc::Global;
 

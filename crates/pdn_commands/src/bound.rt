@@ -5,10 +5,10 @@ ghost use Rattle.pdn_tree.specs.Shapes.{shape};
 ghost use Rattle.pdn_commands.specs.Questions.{IsBound};
 ghost use Rattle.pdn_commands.specs.Stops.{IsNoPlan};
 
-use crate::stop::{Stop, refused};
 use pdn_base::Status;
 use pdn_plan::{Plan, PlanErr, bind};
 use pdn_schema::Schema;
+use pdn_script::{Stop, refused};
 use pdn_sql::Query;
 use std::alloc::Global;
 

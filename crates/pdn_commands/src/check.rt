@@ -12,11 +12,11 @@ ghost use Rattle.pdn_commands.specs.Walk.{Goes, Wrote, RoseIn, counts};
 use crate::answer_text::query_name;
 use crate::bound::bound;
 use crate::inputs::{column_name, queries_of, read_inputs};
-use crate::stop::Stop;
 use pdn_base::{Files, Memory, Sink, SinkErr};
 use pdn_level::{Leaf, Segment, levels};
 use pdn_plan::{OutColumn, Plan};
 use pdn_schema::{Schema, Table, print_schema};
+use pdn_script::Stop;
 use pdn_sql::{Query, print_query};
 use std::alloc::{AllocError, Global};
 

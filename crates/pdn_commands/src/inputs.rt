@@ -11,9 +11,9 @@ ghost use Rattle.pdn_commands.specs.Script.{table_number, column_name};
 ghost use Rattle.pdn_commands.specs.Stops.{stop_of, Missed, MissedInputs, IsNoSchema, AreNoQueries, Inputs as AreInputs};
 ghost use Rattle.pdn_commands.specs.Walk.{NoMemory};
 
-use crate::stop::{Stop, refused};
 use pdn_base::{FileErr, Files, Memory, Name, Status, Who};
 use pdn_schema::{Schema, SchemaErr, Table, read_schema};
+use pdn_script::{Stop, refused};
 use pdn_sql::{Query, SqlErr, read_queries};
 use std::alloc::Global;
 

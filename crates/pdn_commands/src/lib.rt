@@ -9,8 +9,8 @@ mod command;
 mod inputs;
 mod load;
 mod run;
-mod stop;
 mod tables;
 mod top;
+mod who;
 
 pub use top::pdn;

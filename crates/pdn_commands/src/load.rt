@@ -12,10 +12,11 @@ ghost use Rattle.pdn_commands.specs.Stops.{end_of, IsRefusal, AreNoRows, Took, N
 ghost use Rattle.pdn_commands.specs.Walk.{Goes, Wrote, RoseIn, counts_at, NoMemory};
 
 use crate::inputs::{column_name, read_inputs, table_number};
-use crate::stop::{Stop, refused, refused_at, who_of};
+use crate::who::who_of;
 use pdn_base::{Files, Memory, Name, Rows, Sink, SinkErr, Site, Status, Who};
 use pdn_keeper::{AddErr, Added, CsvErr, SiteKeeper, import_csv};
 use pdn_schema::{Schema, Table};
+use pdn_script::{Stop, refused, refused_at};
 use std::alloc::Global;
 
 /// What a load asks for: the batch of this number of the table of this name, from this CSV file.

@@ -10,12 +10,12 @@ ghost use Rattle.pdn_commands.specs.Walk.{Goes, Wrote, RoseIn, counts};
 
 use crate::answer::query_answer;
 use crate::inputs::{MOST_QUERIES, queries_of, read_inputs};
-use crate::stop::Stop;
 use pdn_base::{Files, Sink, SinkErr};
 use pdn_dealer::Deal;
 use pdn_keeper::SiteKeeper;
 use pdn_plan::texts_are_written;
 use pdn_schema::Schema;
+use pdn_script::Stop;
 use pdn_sql::Query;
 use std::alloc::Global;
 

@@ -10,11 +10,12 @@ ghost use Rattle.pdn_commands.specs.Gathering.{FailsIf, NoTables};
 ghost use Rattle.pdn_commands.specs.Questions.{Keeps, who_of};
 ghost use Rattle.pdn_commands.specs.Stops.{FailedAt};
 
-use crate::stop::{Stop, refused, who_of};
+use crate::who::who_of;
 use pdn_base::{Rows, Site, Status, Tables, Who};
 use pdn_keeper::{KeepErr, SiteKeeper};
 use pdn_plan::{Node, Plan};
 use pdn_schema::Schema;
+use pdn_script::{Stop, refused};
 use std::alloc::Global;
 
 /// For each table of the schema, in order, the rows that a site keeps of it where the plan scans it, and else none.

@@ -14,10 +14,10 @@ use crate::check::check;
 use crate::command::{Command, read_command};
 use crate::load::{BatchFile, load};
 use crate::run::run;
-use crate::stop::{Stop, refused};
-use pdn_base::{Files, Sink, Site, Status, Who};
+use pdn_base::{Files, Sink, Site, Status};
 use pdn_dealer::Deal;
 use pdn_keeper::SiteKeeper;
+use pdn_script::{Stop, conclude, refused};
 use std::alloc::Global;
 
 /// Does what the words of a command line say, over these files and the rows that the sites keep, and puts the answers or
@@ -57,6 +57,12 @@ pub fn pdn<F: Files, K: SiteKeeper, S: Sink, D: Deal>(
     ensures kept_b { loads B (task_of (map string_bytes words.now)) ≡ false → K.batches site_b.new ≡ K.batches site_b.old }
     ensures spared_a { result ≡ Status.Memory → K.batches site_a.new ≡ K.batches site_a.old }
     ensures spared_b { result ≡ Status.Memory → K.batches site_b.new ≡ K.batches site_b.old }
+
+    // The count of faults of an object never falls.
+    ensures files_later { F.faults files.old ≤ F.faults files.new }
+    ensures later_a { K.faults site_a.old ≤ K.faults site_a.new }
+    ensures later_b { K.faults site_b.old ≤ K.faults site_b.new }
+    ensures sink_later { S.faults out.old ≤ S.faults out.new }
 {
     perform(alloc, words, files, site_a, site_b, out, deal)
 }
@@ -76,17 +82,13 @@ fn perform<F: Files, K: SiteKeeper, S: Sink, D: Deal>(
     ensures kept_b { loads B (task_of (map string_bytes words.now)) ≡ false → K.batches site_b.new ≡ K.batches site_b.old }
     ensures spared_a { result ≡ Status.Memory → K.batches site_a.new ≡ K.batches site_a.old }
     ensures spared_b { result ≡ Status.Memory → K.batches site_b.new ≡ K.batches site_b.old }
+    ensures files_later { F.faults files.old ≤ F.faults files.new }
+    ensures later_a { K.faults site_a.old ≤ K.faults site_a.new }
+    ensures later_b { K.faults site_b.old ≤ K.faults site_b.new }
+    ensures sink_later { S.faults out.old ≤ S.faults out.new }
 {
-    match follow(alloc, words, files, site_a, site_b, out, deal) {
-        Ok(()) => Status::Done,
-        Err(Stop::Memory) => Status::Memory,
-        Err(Stop::Sink) => Status::Unavailable { who: Who::Sink },
-        Err(Stop::Refused { status, line }) => {
-            // Where this put fails, the status stays.
-            let _put = out.put(line.as_bytes());
-            status
-        }
-    }
+    let came = follow(alloc, words, files, site_a, site_b, out, deal);
+    conclude(came, out)
 }
 
 // All but the line of a refusal.

@@ -2,9 +2,10 @@ use Rattle.std.proofs.Common.{rules, [], refl}
 use Rattle.std.proofs.lemmas.Result.{err_from_is_err_and}
 use Rattle.pdn_commands.specs.Questions.{Told, told_by}
 use Rattle.pdn_commands.specs.Walk.{Counts, RoseIn, counts}
-use Rattle.pdn_commands.specs.declared.stop.Stop.TheVariants as stops
+use Rattle.pdn_script.specs.declared.stop.Stop.TheVariants as stops
 use Rattle.pdn_commands.proofs.Checks.{check_no_queries, check_unreported, check_short, check_said, check_cut}
-use Rattle.pdn_commands.proofs.Walks.{appends_nothing, missed_inputs}
+use Rattle.pdn_script.proofs.Going.{appends_nothing}
+use Rattle.pdn_commands.proofs.Walks.{missed_inputs}
 use Rattle.pdn_commands.proofs.check.check.Goals as goal
 
 pub returns-in_err-inputs-clause-goes : goal.returns-in_err-inputs-clause-goes

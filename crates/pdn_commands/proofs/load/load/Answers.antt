@@ -1,7 +1,7 @@
 use Rattle.std.proofs.Common.{rules, [], sym, ◌∙◌}
 use Rattle.std.proofs.lemmas.Result.{err_from_is_err_and}
 use Rattle.pdn_commands.proofs.Loads.{load_missed, load_no_table, load_no_rows, load_not_took, load_took, load_cut}
-use Rattle.pdn_commands.proofs.Walks.{appends_nothing}
+use Rattle.pdn_script.proofs.Going.{appends_nothing}
 use Rattle.pdn_commands.proofs.load.load.Goals as goal
 
 pub returns-in_err-inputs-clause-goes : goal.returns-in_err-inputs-clause-goes

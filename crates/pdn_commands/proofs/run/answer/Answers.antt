@@ -1,9 +1,9 @@
 use Rattle.std.proofs.Common.{rules, [], refl}
 use Rattle.std.proofs.lemmas.Result.{err_from_is_err_and}
 use Rattle.pdn_commands.specs.Walk.{Counts, RoseIn, counts}
-use Rattle.pdn_commands.specs.declared.stop.Stop.TheVariants as stops
+use Rattle.pdn_script.specs.declared.stop.Stop.TheVariants as stops
 use Rattle.pdn_commands.proofs.Answers.{answer_cut, sites_alone}
-use Rattle.pdn_commands.proofs.Walks.{appends_nothing}
+use Rattle.pdn_script.proofs.Going.{appends_nothing}
 use Rattle.pdn_commands.proofs.run.answer.Goals as goal
 
 pub returns-in_err-text-clause-stops : goal.returns-in_err-text-clause-stops

@@ -3,7 +3,8 @@ use Rattle.std.proofs.lemmas.Result.{err_from_is_err_and}
 use Rattle.pdn_commands.specs.Questions.{Told, told_by}
 use Rattle.pdn_commands.specs.Walk.{Counts, RoseIn, counts}
 use Rattle.pdn_commands.proofs.Answers.{run_no_queries, run_queries, beside_files}
-use Rattle.pdn_commands.proofs.Walks.{appends_nothing, missed_inputs}
+use Rattle.pdn_script.proofs.Going.{appends_nothing}
+use Rattle.pdn_commands.proofs.Walks.{missed_inputs}
 use Rattle.pdn_commands.proofs.run.run.Goals as goal
 
 pub returns-in_err-inputs-clause-goes : goal.returns-in_err-inputs-clause-goes
