@@ -139,13 +139,17 @@ fn a_site_enters_its_own_rows_of_the_value_in_order(rt: HostRuntime) -> Result<(
     let units = unit_of_seven(alloc)?;
     let rows = engine.plain_slice(alloc, &units, 0)?;
     assert!(rt; rows.rows.len() == 2);
-    let secure = engine.secure_inputs(alloc, &units, 0)?;
-    assert!(rt; are_two_visits(&secure));
-    let entered = engine.unit_inputs(alloc, &units, 0)?;
-    assert!(rt; are_two_visits(&entered));
-    // the rows of the plain unit go into the root
+    let words = engine.secure_inputs(alloc, &units, 0)?;
+    assert!(rt; are_two_visits(&words));
+    Ok(())
+}
+
+#[test]
+fn the_rows_of_a_plain_unit_go_into_the_root(rt: HostRuntime) -> Result<(), Fail> {
+    let alloc = rt.alloc();
+    let engine = engine_of(alloc, &[&[7, 3], &[5, 2], &[7, 12], &[7, 1]]).map_err(|_| Memory)?;
     let units = plain_and_root(alloc)?;
-    let root = engine.unit_inputs(alloc, &units, 1)?;
-    assert!(rt; are_two_visits(&root));
+    let words = engine.unit_inputs(alloc, &units, 1)?;
+    assert!(rt; are_two_visits(&words));
     Ok(())
 }
