@@ -5,82 +5,82 @@ use pdn_plan::Node;
 use std::alloc::Global;
 use std::test::Fail;
 
-/// A tree on one line; of a condition, how many clauses it has.
-fn tree_text(alloc: Global, node: &Node) -> Result<String, Memory> {
-    let text = match node {
+/// An operator with its arguments; of a condition, how many clauses it has.
+fn operator_text(alloc: Global, node: &Node) -> Result<String, Memory> {
+    Ok(match node {
         Node::Scan { table } => format!(in alloc; "scan {table}")?,
-        Node::Filter { child, cond } => {
-            let below = tree_text(alloc, child.get())?;
-            format!(in alloc; "filter({below}; {} clauses)", cond.all.len())?
+        Node::Filter { cond, .. } => format!(in alloc; "filter {}", cond.all.len())?,
+        Node::Project { columns, .. } => format!(in alloc; "project {:?}", columns.as_slice())?,
+        Node::Join { on, .. } => format!(in alloc; "join {}", on.all.len())?,
+        Node::Group { keys, having, .. } => {
+            format!(in alloc; "group {:?} {having:?}", keys.as_slice())?
         }
-        Node::Project { child, columns } => {
-            let below = tree_text(alloc, child.get())?;
-            format!(in alloc; "project({below}; {:?})", columns.as_slice())?
-        }
-        Node::Join { left, right, on } => {
-            let l = tree_text(alloc, left.get())?;
-            let r = tree_text(alloc, right.get())?;
-            format!(in alloc; "join({l}, {r}; {} clauses)", on.all.len())?
-        }
-        Node::Group {
-            child,
-            keys,
-            having,
-        } => {
-            let below = tree_text(alloc, child.get())?;
-            format!(in alloc; "group({below}; {:?}; {having:?})", keys.as_slice())?
-        }
-        Node::Count { child } => format!(in alloc; "count({})", tree_text(alloc, child.get())?)?,
-        Node::Distinct { child } => {
-            format!(in alloc; "distinct({})", tree_text(alloc, child.get())?)?
-        }
+        Node::Count { .. } => String::from_str(alloc, "count")?,
+        Node::Distinct { .. } => String::from_str(alloc, "distinct")?,
         Node::Number {
-            child,
             partition,
             order,
+            ..
         } => {
-            let below = tree_text(alloc, child.get())?;
             let order = order.as_slice();
-            format!(in alloc; "number({below}; {:?}; {order:?})", partition.as_slice())?
+            format!(in alloc; "number {:?} {order:?}", partition.as_slice())?
         }
-        Node::Top {
-            child,
-            order,
-            limit,
-        } => {
-            let below = tree_text(alloc, child.get())?;
-            format!(in alloc; "top({below}; {:?}; {limit:?})", order.as_slice())?
+        Node::Top { order, limit, .. } => {
+            format!(in alloc; "top {:?} {limit:?}", order.as_slice())?
         }
-    };
-    Ok(text)
+    })
+}
+
+fn over(alloc: Global, operator: &str, below: String) -> Result<String, Memory> {
+    Ok(format!(in alloc; "{operator} ({below})")?)
+}
+
+/// A tree on one line.
+fn tree_text(alloc: Global, node: &Node) -> Result<String, Memory> {
+    let said = operator_text(alloc, node)?;
+    match node {
+        Node::Scan { .. } => Ok(said),
+        Node::Filter { child, .. } => over(alloc, &said, tree_text(alloc, child.get())?),
+        Node::Project { child, .. } => over(alloc, &said, tree_text(alloc, child.get())?),
+        Node::Join { left, right, .. } => {
+            let left = tree_text(alloc, left.get())?;
+            let right = tree_text(alloc, right.get())?;
+            over(alloc, &said, format!(in alloc; "{left}, {right}")?)
+        }
+        Node::Group { child, .. } => over(alloc, &said, tree_text(alloc, child.get())?),
+        Node::Count { child } => over(alloc, &said, tree_text(alloc, child.get())?),
+        Node::Distinct { child } => over(alloc, &said, tree_text(alloc, child.get())?),
+        Node::Number { child, .. } => over(alloc, &said, tree_text(alloc, child.get())?),
+        Node::Top { child, .. } => over(alloc, &said, tree_text(alloc, child.get())?),
+    }
 }
 
 /// A query and its tree.
 const PLANS: &[(&str, &str)] = &[
     (
         "WITH a AS (SELECT pid FROM med) SELECT COUNT(*) FROM t;",
-        "top(count(project(scan 0; [])); []; None)",
+        "top [] None (count (project [] (scan 0)))",
     ),
     (
         "SELECT code, COUNT(*) AS n FROM diag GROUP BY code HAVING COUNT(*) >= 3;",
-        "top(group(project(scan 1; [1]); [0]; Some(3)); []; None)",
+        "top [] None (group [0] Some(3) (project [1] (scan 1)))",
     ),
     (
         "SELECT pid FROM diag GROUP BY pid, pid ORDER BY pid DESC, pid LIMIT 2;",
-        "top(project(group(project(scan 1; [0]); [0]; None); [0]); [Key { column: 0, down: true }]; Some(2))",
+        "top [Key { column: 0, down: true }] Some(2) (project [0] (group [0] None (project [0] (scan 1))))",
     ),
     (
         "SELECT d.pid FROM diag d JOIN med m ON d.pid = m.pid WHERE d.code = 'flu' AND d.day < m.day AND m.day > 3;",
-        "top(project(filter(join(project(filter(scan 1; 1 clauses); [0, 2]), project(filter(scan 2; 1 clauses); [0, 2]); 1 clauses); 1 clauses); [0]); []; None)",
+        "top [] None (project [0] (filter 1 (join 1 (project [0, 2] (filter 1 (scan 1)), project [0, 2] (filter 1 (scan 2))))))",
     ),
     (
         RECURRENT,
-        "top(distinct(project(filter(join(number(project(filter(scan 1; 1 clauses); [0, 2]); [0]; [Key { column: 1, down: false }]), number(project(filter(scan 1; 1 clauses); [0, 2]); [0]; [Key { column: 1, down: false }]); 2 clauses); 2 clauses); [0])); [Key { column: 0, down: false }]; None)",
+        "top [Key { column: 0, down: false }] None (distinct (project [0] (filter 2 (join 2 (number [0] [Key { column: 1, down: false }] (project [0, 2] (filter 1 (scan 1))), number [0] [Key { column: 1, down: false }] (project [0, 2] (filter 1 (scan 1))))))))",
     ),
     // a scope of three tables of eight columns
     (
         "SELECT u.a FROM u JOIN v ON u.a = v.a JOIN w ON v.h = w.h WHERE w.b = 5;",
-        "top(project(join(join(project(scan 5; [0]), project(scan 6; [0, 7]); 1 clauses), project(filter(scan 7; 1 clauses); [7]); 1 clauses); [0]); []; None)",
+        "top [] None (project [0] (join 1 (join 1 (project [0] (scan 5), project [0, 7] (scan 6)), project [7] (filter 1 (scan 7)))))",
     ),
 ];
 
