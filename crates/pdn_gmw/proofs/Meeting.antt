@@ -1,5 +1,5 @@
 -- The halves of one section meet.
-use Rattle.std.proofs.Common.{◌≡◌, ℕ, List, [], ◌∷◌, length, map, refl, sym, ap, ◌∙◌, subst, arith}
+use Rattle.std.proofs.Common.{◌≡◌, ℕ, List, [], ◌∷◌, length, map, refl, sym, ap, ◌∙◌, subst}
 use Rattle.std.specs.List.{range_with_len}
 use lib.Lanes.{zip2}
 use Rattle.std.proofs.lemmas.List.{length-map}
@@ -8,7 +8,7 @@ use Rattle.pdn_base.specs.declared.site.Site.{Site}
 use Rattle.pdn_base.specs.declared.site.Site.TheVariants.{A, B}
 use Rattle.pdn_circuit.specs.Gates.{Net, input_count, given_count}
 use Rattle.pdn_dealer.specs.Tapes.{first_words}
-use Rattle.pdn_dealer.specs.Sections.{Five, Layout, PartWords, triple_of, part_of, section_length, layout_of, five_count}
+use Rattle.pdn_dealer.specs.Sections.{Five, Layout, PartWords, triple_of, part_of, section_length, layout_of}
 use Rattle.pdn_dealer.proofs.SectionWords.{covers_of}
 use Rattle.pdn_gmw.specs.Steps.{HalfState, half_words, Fits, begun}
 use Rattle.pdn_gmw.specs.Pairs.{joined_five, joined, AreParts, ArePair}

@@ -1,10 +1,10 @@
 -- Frames by depth: what is picked for a depth, and where what comes in is put.
-use Rattle.std.proofs.Common.{◌≡◌, ℕ, zero, suc, ◌+◌, ◌*◌, ◌<◌, ◌≤◌, Bool, true, false, cond, eqb, ◌&&◌, List, [], ◌∷◌, ◌++◌, length, get_or, set, map, take, refl, sym, ap, ◌∙◌, subst, ⊎_elim, arith, length-append, append_assoc, append-nil}
-use Rattle.std.specs.Prelude.{slice_index, slice_index_or, slice_set}
-use Rattle.std.specs.List.{fold, filter, flat_map, range_with_len}
-use Rattle.std.proofs.lemmas.Bool.{false≢true, cases_Bool, cond-true, cond-false}
+use Rattle.std.proofs.Common.{◌≡◌, ℕ, suc, ◌+◌, ◌<◌, Bool, true, false, cond, eqb, ◌&&◌, List, [], ◌∷◌, ◌++◌, length, get_or, set, map, take, refl, sym, ap, ◌∙◌, ⊎_elim, arith, length-append, append_assoc}
+use Rattle.std.specs.Prelude.{slice_index, slice_index_or}
+use Rattle.std.specs.List.{filter, range_with_len}
+use Rattle.std.proofs.lemmas.Bool.{cond-true, cond-false}
 use Rattle.std.proofs.lemmas.Bool.Decides.{eqb_tells}
-use Rattle.std.proofs.lemmas.List.{get_or_at, length-map, take_more, get_or_append_left}
+use Rattle.std.proofs.lemmas.List.{get_or_at, length-map}
 use Rattle.pdn_circuit.specs.declared.gate.Gate.{Gate}
 use Rattle.pdn_circuit.specs.declared.gate.Gate.TheVariants.{Input, Given, Const, Xor, And, Spread, Move}
 use Rattle.pdn_circuit.specs.Gates.{operands_of, ands}
@@ -12,7 +12,7 @@ use Rattle.pdn_circuit.specs.Depths.{and_rounds_from, and_rounds, own_round, dep
 use Rattle.pdn_circuit.specs.Gates.{is_and}
 use Rattle.pdn_gmw.specs.Shares.{Masked, blank}
 use Rattle.pdn_gmw.specs.Rounds.{pick, put}
-use Rattle.pdn_gmw.specs.Layers.{LayerAnd, gate_at, number_of_and, and_of, is_layer_and}
+use Rattle.pdn_gmw.specs.Layers.{gate_at, number_of_and, is_layer_and}
 
 -- the gates from a place on: how many And gates stand before it
 pub record From (gates gs : List Gate) (from n : ℕ) : Type 0 where

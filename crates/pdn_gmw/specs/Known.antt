@@ -1,6 +1,6 @@
 -- What a half has at hand, and how the shares of one depth come of those below it.
-use Rattle.std.specs.Prelude.{◌≡◌, ℕ, ◌+◌, ◌*◌, ◌<◌, ◌≤◌, ◌⊎◌, true, List, [], ◌∷◌, length, take, map, slice_index, slice_index_or, slice_set}
-use Rattle.std.specs.List.{fold, count_by, range_with_len}
+use Rattle.std.specs.Prelude.{◌≡◌, ℕ, ◌<◌, ◌≤◌, List, [], ◌∷◌, length, take, map, slice_index, slice_index_or, slice_set}
+use Rattle.std.specs.List.{count_by}
 use Rattle.pdn_base.specs.declared.site.Site.{Site}
 use Rattle.pdn_base.specs.Words.{◌⊕◌, spread, moved}
 use Rattle.pdn_circuit.specs.declared.gate.Gate.{Gate}

@@ -1,12 +1,15 @@
 //! What a half begins with, and its shares of the gates that read no other.
 ghost use Rattle.std.specs.Prelude.{◌≡◌, ◌<◌, ◌≤◌, ◌^◌, ℕ, IsTrue, true, length, map, slice_index, IfOk};
-ghost use Rattle.std.specs.List.{range_with_len};
+ghost use Rattle.std.specs.List.{fold, range_with_len};
 ghost use Rattle.pdn_circuit.specs.Gates.{is_input};
 ghost use Rattle.pdn_gmw.specs.Shares.{inputs_after};
 ghost use Rattle.pdn_gmw.specs.Halves.{half_input, half_const, IsOwn};
-ghost use Rattle.pdn_gmw.specs.Known.{leaf_share, CanLeaf, leaf_at, HasLeaves};
+ghost use Rattle.pdn_gmw.specs.Layers.{layer_of};
+ghost use Rattle.pdn_gmw.specs.Known.{leaf_share, CanLeaf, leaf_at, HasLeaves, linear_settled};
 ghost use Rattle.pdn_gmw.specs.Steps.{covered};
 
+use crate::rounds::share_rest;
+use crate::schedule::Schedule;
 use pdn_base::{Memory, Site, Word};
 use pdn_circuit::{Circuit, Gate};
 use std::alloc::Global;
@@ -43,8 +46,20 @@ impl Holdings {
         self.site
     }
 
-    /// The shares of the Input, Given and Const gates in their places among all gates, and zero at the others.
-    pub fn leaf_shares(&self, alloc: Global, circuit: &Circuit) -> Result<Vec<Word>, Memory>
+    /// The shares of the gates of depth 0 in their places among all gates, and zero at the others.
+    pub fn first_shares(&self, alloc: Global, schedule: &Schedule) -> Result<Vec<Word>, Memory>
+        requires { HasLeaves schedule.now self.now }
+        ensures { IfOk result (λ shares. shares.items ≡ fold (linear_settled schedule.now.gates) (map (leaf_at self.now schedule.now.gates) (range_with_len 0 (length schedule.now.gates))) (layer_of schedule.now.gates 0).rest) }
+    {
+        let circuit = schedule.circuit();
+        let first = schedule.first();
+        let mut shares = self.leaf_shares(alloc, circuit)?;
+        share_rest(circuit, first.rest.as_slice(), shares.as_mut_slice());
+        Ok(shares)
+    }
+
+    // The shares of the Input, Given and Const gates in their places among all gates, and zero at the others.
+    fn leaf_shares(&self, alloc: Global, circuit: &Circuit) -> Result<Vec<Word>, Memory>
         requires { HasLeaves circuit.now self.now }
         ensures { IfOk result (λ shares. shares.items ≡ map (leaf_at self.now circuit.now.gates) (range_with_len 0 (length circuit.now.gates))) }
     {

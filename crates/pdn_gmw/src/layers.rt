@@ -1,5 +1,5 @@
 //! The gates by depth.
-ghost use Rattle.std.specs.Prelude.{◌≡◌, ℕ, ◌+◌, ◌<◌, ◌≤◌, ◌^◌, length, max, replicate, IfOk, OnOk};
+ghost use Rattle.std.specs.Prelude.{◌≡◌, ℕ, ◌+◌, ◌<◌, ◌≤◌, ◌^◌, length, max, replicate, slice_index_or, IfOk, OnOk};
 ghost use Rattle.std.specs.List.{fold};
 ghost use Rattle.pdn_circuit.specs.Gates.{operands_of};
 ghost use Rattle.pdn_gmw.specs.Layers.{no_layer, layer_more, AreLayers};
@@ -100,4 +100,17 @@ fn empty_layers(alloc: Global, top: u32) -> Result<Vec<Layer>, Memory>
         layers.push(Layer::new(alloc))?;
     }
     Ok(layers)
+}
+
+/// As many And gates as a layer has, and no fewer than any other.
+pub fn most_ands(layers: &[Layer]) -> usize
+    requires { (d : ℕ) → length (slice_index_or layers.now d no_layer).ands < 2 ^ 31 }
+    ensures most { (d : ℕ) → length (slice_index_or layers.now d no_layer).ands ≤ result }
+    ensures few { result < 2 ^ 31 }
+{
+    let mut most = 0;
+    for layer in layers {
+        most = most.max(layer.ands.len());
+    }
+    most
 }

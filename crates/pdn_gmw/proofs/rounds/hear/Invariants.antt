@@ -1,4 +1,4 @@
-use Rattle.std.proofs.Common.{◌≡◌, ◌≤◌, ◌*◌, ℕ, length, take}
+use Rattle.std.proofs.Common.{◌≡◌, length, take}
 use Rattle.pdn_gmw.specs.Known.{heard_by}
 use Rattle.pdn_gmw.proofs.rounds.hear.Given as goal
 

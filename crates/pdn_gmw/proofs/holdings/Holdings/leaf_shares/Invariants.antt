@@ -1,4 +1,4 @@
-use Rattle.std.proofs.Common.{◌≡◌, ◌≤◌, ℕ, length, take, map}
+use Rattle.std.proofs.Common.{◌≡◌, ◌≤◌, take, map}
 use Rattle.std.specs.List.{range_with_len, count_by}
 use Rattle.pdn_circuit.specs.Gates.{is_input}
 use Rattle.pdn_gmw.specs.Known.{leaf_at}
