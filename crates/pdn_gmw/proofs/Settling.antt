@@ -1,9 +1,9 @@
 -- The shares of one depth come of those below it.
-use Rattle.std.proofs.Common.{◌≡◌, ◌⊎◌, inl, inr, ℕ, zero, suc, ◌+◌, ◌<◌, ◌≤◌, Bool, true, false, eqb, ◌&&◌, List, [], ◌∷◌, length, get_or, set, map, take, refl, sym, ap, ◌∙◌, subst, ⊎_elim, arith, get_or-set_same, get_or-set_other}
-use Rattle.std.specs.Prelude.{slice_index}
+use Rattle.std.proofs.Common.{◌≡◌, ◌⊎◌, inl, inr, ℕ, zero, suc, ◌+◌, ◌<◌, ◌≤◌, Bool, true, false, cond, eqb, ◌&&◌, List, [], ◌∷◌, length, get_or, set, map, take, refl, sym, ap, ◌∙◌, subst, ⊎_elim, arith, get_or-set_same, get_or-set_other}
+use Rattle.std.specs.Prelude.{slice_index, slice_index_or, slice_set}
 use Rattle.std.specs.List.{fold, filter, range_with_len, count_by}
 use Rattle.std.proofs.lemmas.Bool.{false≢true, cases_Bool, cases_eq, cond-true, cond-false, eqb-true}
-use Rattle.std.proofs.lemmas.Bool.Decides.{eqb_tells}
+use Rattle.std.proofs.lemmas.Bool.Decides.{eqb_tells, leb_tells}
 use Rattle.std.proofs.lemmas.List.{length-set}
 use Rattle.std.proofs.lemmas.List.Folds.{fold-map}
 use Rattle.std.proofs.lemmas.List.FromFn.{get_or-map-range_with_len}
@@ -12,14 +12,15 @@ use Rattle.pdn_base.specs.Words.{◌⊕◌}
 use Rattle.pdn_circuit.specs.declared.gate.Gate.{Gate}
 use Rattle.pdn_circuit.specs.declared.gate.Gate.TheVariants.{Input, Given, Const, Xor, And, Spread, Move}
 use Rattle.pdn_circuit.specs.Gates.{InOrder, NamesBelow, is_input}
-use Rattle.pdn_circuit.specs.Depths.{IsAfter, gate_depth, and_rounds, depths_of}
+use Rattle.pdn_circuit.specs.Depths.{IsAfter, InRounds, gate_depth, and_rounds, depths_of}
 use Rattle.pdn_circuit.proofs.DepthLaws.{depths_in_rounds}
 use Rattle.pdn_circuit.proofs.DepthMeaning.{depth_here}
 use Rattle.pdn_dealer.specs.declared.parts.Triple.{Triple}
+use Rattle.pdn_dealer.specs.Sections.{no_triple}
 use Rattle.pdn_circuit.specs.Gates.{is_and}
 use Rattle.pdn_gmw.specs.Shares.{Masked, GateView}
 use Rattle.pdn_gmw.specs.Halves.{HalfWords, triple_at, heard_at, half_product, share_from, half_walk}
-use Rattle.pdn_gmw.specs.Layers.{is_linear, first_of, second_of, gate_at, number_of_and, and_of, is_layer_and, is_layer_rest, layer_of}
+use Rattle.pdn_gmw.specs.Layers.{LayerAnd, is_linear, first_of, second_of, gate_at, number_of_and, and_of, is_layer_and, is_layer_rest, layer_of}
 use Rattle.pdn_gmw.specs.Known.{HeldWords, held, no_view, view_at, own_triple, received, leaf_share, leaf_at, and_share, and_settled, linear_share, linear_settled, KnownTo}
 use Rattle.pdn_gmw.proofs.Progress.{share_at}
 use Rattle.pdn_gmw.proofs.RoundLaws.{upto, shares_settled}
@@ -43,7 +44,7 @@ passed : (R : ℕ → Type 0) (p : ℕ → Bool) (a j : ℕ) → p a ≡ false �
 passed R p a j t (inl r) = inl r
 passed R p a j t (inr q) = inr (q.0, le_apart j a q.1 (λ e. absurd (false≢true (sym t ∙ sym (ap p e) ∙ q.0))))
 
-all_written : (len : ℕ) (R : ℕ → Type 0) (p : ℕ → Bool) (whole : List ℕ) (value : List ℕ → ℕ → ℕ)
+pub all_written : (len : ℕ) (R : ℕ → Type 0) (p : ℕ → Bool) (whole : List ℕ) (value : List ℕ → ℕ → ℕ)
     → ((a : ℕ) (s : List ℕ) → a < len → p a ≡ true → Good len R p whole a s → value s a ≡ get_or whole a 0)
     → (n a b : ℕ) (s : List ℕ) → a + n ≡ b → b ≤ len → length s ≡ len → Good len R p whole a s → Good len R p whole b (fold (written value) s (filter p (range_with_len a n)))
 all_written len R p whole value right zero a b s e m l g = subst (λ (i : ℕ). Good len R p whole i s) (omega arith) g

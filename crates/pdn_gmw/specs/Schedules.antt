@@ -6,4 +6,4 @@ use Rattle.pdn_gmw.specs.Layers.{AreLayers}
 
 pub record IsSchedule (s : Inside) : Type 0 where
   pub circuit : IsCircuit (arc_value s.circuit)
-  pub layers : AreLayers (arc_value s.circuit) (arc_value s.layers).items
+  pub layers : AreLayers (arc_value s.circuit) (arc_value s.layers)

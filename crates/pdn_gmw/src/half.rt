@@ -82,8 +82,9 @@ impl Half {
     {
         let Part { r, triples, masks } = part;
         let circuit = schedule.circuit();
-        let own_r = r_words(alloc, circuit, site, r.as_slice())?;
-        let other_r = r_words(alloc, circuit, other(site), r.as_slice())?;
+        let leaves = schedule.leaves();
+        let own_r = r_words(alloc, leaves, site, r.as_slice())?;
+        let other_r = r_words(alloc, leaves, other(site), r.as_slice())?;
         let views = unheard(alloc, triples.as_slice())?;
         let zero = Word::from_u64(0);
         let outputs = vec![in alloc; zero; circuit.outputs.len()]?;

@@ -2,10 +2,10 @@
 ghost use Rattle.std.specs.Prelude.{◌≡◌, ℕ, ◌+◌, ◌<◌, ◌≤◌, ◌^◌, length, IfOk};
 ghost use Rattle.std.specs.Arc.{arc_value};
 ghost use Rattle.pdn_circuit.specs.Gates.{IsCircuit};
-ghost use Rattle.pdn_gmw.specs.Layers.{layer_of};
+ghost use Rattle.pdn_gmw.specs.Layers.{layer_of, leaves_of};
 ghost use Rattle.pdn_gmw.specs.Steps.{frame_count};
 
-use crate::layers::{Layer, layers_of, most_ands};
+use crate::layers::{Layer, Layers, Leaf, layers_of, most_ands};
 use pdn_base::Memory;
 use pdn_circuit::Circuit;
 use std::alloc::Global;
@@ -16,7 +16,7 @@ use std::sync::Arc;
 #[derive(Drop)]
 pub struct Schedule {
     circuit: Arc<Circuit>,
-    layers: Arc<Vec<Layer>>,
+    layers: Arc<Layers>,
 }
 
 impl Model for Schedule {
@@ -66,11 +66,20 @@ impl Schedule {
         circuit
     }
 
+    // The Input, Given and Const gates.
+    pub(crate) fn leaves(&self) -> &[Leaf]
+        ensures { result.now ≡ leaves_of self.now.gates }
+    {
+        let layers: &Layers = &self.layers;
+        layers.leaves.as_slice()
+    }
+
     // The gates of depth 0.
     pub(crate) fn first(&self) -> &Layer
         ensures { result.now ≡ layer_of self.now.gates 0 }
     {
-        &self.layers[0]
+        let layers: &Layers = &self.layers;
+        &layers.list[0]
     }
 
     // The gates of the depth that is run after so many frames.
@@ -79,7 +88,8 @@ impl Schedule {
         ensures layer { result.now ≡ layer_of self.now.gates (taken + 1) }
         ensures few { taken < 2 ^ 63 }
     {
-        &self.layers[taken + 1]
+        let layers: &Layers = &self.layers;
+        &layers.list[taken + 1]
     }
 
     // How many frames each half sends.
@@ -87,7 +97,8 @@ impl Schedule {
         ensures count { result ≡ frame_count self.now }
         ensures circuit { IsCircuit self.now }
     {
-        self.layers.len() - 1
+        let layers: &Layers = &self.layers;
+        layers.list.len() - 1
     }
 
     // As many And gates as a depth has, and no fewer than any other.
@@ -95,6 +106,7 @@ impl Schedule {
         ensures most { (d : ℕ) → d ≤ frame_count self.now → length (layer_of self.now.gates d).ands ≤ result }
         ensures few { result < 2 ^ 31 }
     {
-        most_ands(&self.layers)
+        let layers: &Layers = &self.layers;
+        most_ands(&layers.list)
     }
 }

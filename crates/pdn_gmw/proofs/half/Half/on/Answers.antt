@@ -5,15 +5,28 @@ use Rattle.pdn_gmw.specs.Layers.{layer_of}
 use Rattle.pdn_gmw.specs.Known.{HeldWords, held, received}
 use Rattle.pdn_gmw.specs.Steps.{frame_count}
 use Rattle.pdn_circuit.specs.Gates.{IsCircuit}
-use Rattle.pdn_dealer.specs.Sections.{PartWords}
-use Rattle.std.specs.List.{range_with_len}
+use Rattle.pdn_dealer.specs.Sections.{PartWords, r_count}
+use Rattle.std.specs.List.{flat_map, range_with_len}
 use Rattle.std.proofs.lemmas.List.FromFn.{length-map-range_with_len}
 use Rattle.pdn_gmw.specs.Shares.{r_words, other_site}
-use Rattle.pdn_gmw.specs.Known.{leaf_at, unheard, KnownTo}
+use Rattle.pdn_gmw.specs.Known.{leaf_at, leaf_r, MasksThere, unheard, KnownTo}
 use Rattle.pdn_gmw.specs.Steps.{half_words, Fits}
 use Rattle.pdn_gmw.proofs.Settling.{known_first}
+use Rattle.pdn_gmw.proofs.Leaves.{masks_there, leaf_words}
 use Rattle.pdn_gmw.proofs.Stepping.{length-linear_settled, held_begun, state_begun}
 use Rattle.pdn_gmw.proofs.half.Half.on.Goals as goal
+
+pub r_words-requires : goal.r_words-requires
+r_words-requires c =
+    let net : Net = c.args.schedule.now in
+    let r : length c.part.inside.r.items ≡ r_count net = ap (λ (p : PartWords). length p.r) c.part.view_is ∙ c.requires.r in
+    subst (MasksThere c.as_slice.result.now) (sym c.leaves-leaves.ensures) (masks_there net c.as_slice.result.now (ap length c.as_slice.ensures.value ∙ r))
+
+pub r_words-requires-2 : goal.r_words-requires-2
+r_words-requires-2 c =
+    let net : Net = c.args.schedule.now in
+    let r : length c.part.inside.r.items ≡ r_count net = ap (λ (p : PartWords). length p.r) c.part.view_is ∙ c.requires.r in
+    subst (MasksThere c.as_slice-2.result.now) (sym c.leaves-leaves.ensures) (masks_there net c.as_slice-2.result.now (ap length c.as_slice-2.ensures.value ∙ r))
 
 pub invariant_of-result : goal.invariant_of-result
 invariant_of-result c =
@@ -27,13 +40,13 @@ invariant_of-result c =
     let half : held hw views ≡ half_words c.args.site c.args.own.items c.args.given.items c.args.part = held_begun c.args.site c.args.own.items c.args.given.items part c.args.part views c.part.view_is begun_views in
     let leaves : List ℕ = map (leaf_at hw net.gates) (range_with_len 0 (length net.gates)) in
     let long : length leaves ≡ length net.gates = length-map-range_with_len (leaf_at hw net.gates) 0 (length net.gates) in
-    let gates : c.circuit-circuit.result.now.gates ≡ net.gates = ap (λ (n : Net). n.gates) c.circuit-circuit.ensures in
     record {
       circuit = subst IsCircuit (sym same) is;
       fits = subst (λ (n : Net). Fits n (held hw views)) (sym same) (subst (Fits net) (sym half) c.requires);
-      own_r = c.in_ok-own_r.ensures ∙ ap (λ (r : List ℕ). r_words c.args.site r 0 c.circuit-circuit.result.now.gates) c.as_slice.ensures.value ∙ ap (r_words c.args.site part.r 0) gates ∙ ap (λ (n : Net). r_words c.args.site part.r 0 n.gates) (sym same);
-      other_r = c.in_ok-other_r.ensures ∙ ap (λ s. r_words s c.as_slice-2.result.now 0 c.circuit-circuit.result.now.gates) c.other.ensures ∙ ap (λ (r : List ℕ). r_words (other_site c.args.site) r 0 c.circuit-circuit.result.now.gates) c.as_slice-2.ensures.value
-          ∙ ap (r_words (other_site c.args.site) part.r 0) gates ∙ ap (λ (n : Net). r_words (other_site c.args.site) part.r 0 n.gates) (sym same);
+      own_r = c.in_ok-own_r.ensures ∙ ap (λ (r : List ℕ). flat_map (leaf_r c.args.site r) c.leaves-leaves.result.now) c.as_slice.ensures.value
+          ∙ ap (flat_map (leaf_r c.args.site part.r)) c.leaves-leaves.ensures ∙ leaf_words c.args.site part.r net.gates ∙ ap (λ (n : Net). r_words c.args.site part.r 0 n.gates) (sym same);
+      other_r = c.in_ok-other_r.ensures ∙ ap (λ s. flat_map (leaf_r s c.as_slice-2.result.now) c.leaves-leaves.result.now) c.other.ensures ∙ ap (λ (r : List ℕ). flat_map (leaf_r (other_site c.args.site) r) c.leaves-leaves.result.now) c.as_slice-2.ensures.value
+          ∙ ap (flat_map (leaf_r (other_site c.args.site) part.r)) c.leaves-leaves.ensures ∙ leaf_words (other_site c.args.site) part.r net.gates ∙ ap (λ (n : Net). r_words (other_site c.args.site) part.r 0 n.gates) (sym same);
       shares = ap length c.in_ok-shares.ensures ∙ length-linear_settled net.gates leaves (layer_of net.gates 0).rest ∙ long ∙ ap (λ (n : Net). length n.gates) (sym same);
       taken = omega arith;
       known = subst (λ (n : Net). KnownTo (held hw views) (map received views) n.gates 0 c.in_ok-shares.shares.items) (sym same)
