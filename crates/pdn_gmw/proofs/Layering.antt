@@ -1,5 +1,5 @@
 -- The layers, gate by gate.
-use Rattle.std.proofs.Common.{◌≡◌, ℕ, zero, suc, ◌+◌, ◌<◌, ◌≤◌, max, Bool, true, false, cond, eqb, ◌&&◌, List, [], ◌∷◌, ◌++◌, length, get_or, set, map, take, replicate, refl, sym, ap, ◌∙◌, subst, ⊎_elim, arith, length-append, append-nil, get_or-set_same, get_or-set_other}
+use Rattle.std.proofs.Common.{◌≡◌, ℕ, zero, suc, ◌+◌, ◌<◌, ◌≤◌, max, Bool, true, false, cond, eqb, ◌&&◌, List, [], ◌∷◌, ◌++◌, length, get_or, set, map, take, replicate, refl, sym, ap, ◌∙◌, ⊎_elim, arith, length-append, append-nil, get_or-set_same, get_or-set_other}
 use Rattle.std.specs.Prelude.{slice_index, slice_index_or, slice_set}
 use Rattle.std.specs.List.{fold, filter, range_with_len}
 use Rattle.std.proofs.lemmas.Bool.Decides.{eqb_tells}
@@ -12,7 +12,7 @@ use Rattle.pdn_circuit.proofs.ValueLaws.{ands_more}
 use Rattle.pdn_circuit.specs.Depths.{gate_depth, next_depths, depths_of}
 use Rattle.pdn_circuit.specs.Gates.{is_and}
 use Rattle.pdn_gmw.specs.Steps.{frame_count}
-use Rattle.pdn_gmw.specs.Layers.{LayerAnd, is_linear, first_of, second_of, gate_at, number_of_and, and_of, is_layer_and, is_layer_rest, LayerWords, no_layer, layer_to, layer_of, layer_more}
+use Rattle.pdn_gmw.specs.Layers.{LayerAnd, is_linear, gate_at, number_of_and, and_of, is_layer_and, is_layer_rest, LayerWords, no_layer, layer_to, layer_more}
 
 -- ---- depths
 depths_long : (gates : List Gate) (ds : List ℕ) → length (fold next_depths ds gates) ≡ length ds + length gates

@@ -1,6 +1,6 @@
 -- The gates that read no other: what a half reads at them, and what it makes of them.
-use Rattle.std.proofs.Common.{◌≡◌, ◌⊎◌, inl, inr, ℕ, zero, suc, ◌+◌, ◌<◌, ◌≤◌, Bool, true, false, cond, List, [], ◌∷◌, ◌++◌, length, get_or, set, map, take, replicate, refl, sym, ap, ◌∙◌, subst, ⊎_elim, arith, append-nil}
-use Rattle.std.specs.Prelude.{slice_index, slice_index_or, slice_set}
+use Rattle.std.proofs.Common.{◌≡◌, inl, inr, ℕ, zero, suc, ◌+◌, ◌<◌, ◌≤◌, Bool, true, false, List, [], ◌∷◌, ◌++◌, length, get_or, map, take, replicate, refl, sym, ap, ◌∙◌, subst, ⊎_elim, arith, append-nil}
+use Rattle.std.specs.Prelude.{slice_index, slice_index_or}
 use Rattle.std.specs.List.{fold, filter, flat_map, range_with_len, count_by}
 use Rattle.std.proofs.lemmas.Bool.{false≢true, cases_Bool}
 use Rattle.std.proofs.lemmas.List.{length-map, length-set, length-replicate, get_or-map, get_or_default, get_or-replicate, take_all, ext_get_or}
@@ -20,7 +20,7 @@ use Rattle.pdn_gmw.specs.Known.{HeldWords, HasLeaves, CanLeaf, LeavesThere, Mask
 use Rattle.pdn_gmw.proofs.Progress.{can_leaf}
 use Rattle.pdn_gmw.proofs.Hearing.{r_more}
 use Rattle.pdn_gmw.proofs.Layering.{mapped_more}
-use Rattle.pdn_gmw.proofs.Settling.{Good, written, all_written}
+use Rattle.pdn_gmw.proofs.Settling.{Good, all_written}
 use Rattle.pdn_gmw.proofs.Stepping.{layer_within}
 
 -- ---- one gate more
@@ -109,7 +109,7 @@ leaves_settled h gates =
     = λ j m q. ⊎_elim (λ t. get_or-replicate len j 0 0 m ∙ sym (not_leaf h (count_by is_input (take j gates)) (gate_at gates j) t) ∙ sym (at j m)) (λ x. absurd (omega (arith, x.1))) q in
     let done : Good len R p whole len (fold (leaf_settled h) zeros (leaves_of gates))
     = subst (Good len R p whole len) (sym (fold-map (leaf_settled h) (leaf_of gates) zeros (filter p (range_with_len 0 len))))
-        (all_written len R p whole value right len 0 len zeros (omega arith) (omega arith) (length-replicate len 0) begun) in
+    (all_written len R p whole value right len 0 len zeros (omega arith) (omega arith) (length-replicate len 0) begun) in
     let long : length (fold (leaf_settled h) zeros (leaves_of gates)) ≡ len = length-leaves_settled h zeros (leaves_of gates) ∙ length-replicate len 0 in
     ext_get_or 0 (fold (leaf_settled h) zeros (leaves_of gates)) whole (long ∙ sym (length-map-range_with_len (leaf_at h gates) 0 len))
     (λ j b. let m : j < len = omega (arith, long) in ⊎_elim (λ t. done j m (inr (t, m))) (λ t. done j m (inl t)) (cases_Bool (p j)))

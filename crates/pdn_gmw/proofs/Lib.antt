@@ -8,6 +8,7 @@ pub mod Settling
 pub mod Picking
 pub mod Stepping
 pub mod Leaves
+pub mod Exchanging
 pub mod Putting
 pub mod Running
 pub mod Meeting

@@ -1,5 +1,5 @@
 -- What a half has at hand, and how the shares of one depth come of those below it.
-use Rattle.std.specs.Prelude.{◌≡◌, ℕ, ◌+◌, ◌*◌, ◌<◌, ◌≤◌, ◌⊎◌, true, List, [], ◌∷◌, length, take, map, slice_index, slice_index_or, slice_set}
+use Rattle.std.specs.Prelude.{◌≡◌, ℕ, ◌<◌, ◌≤◌, true, List, [], ◌∷◌, length, take, map, slice_index, slice_index_or, slice_set}
 use Rattle.std.specs.List.{fold, count_by, range_with_len}
 use Rattle.pdn_base.specs.declared.site.Site.{Site}
 use Rattle.pdn_base.specs.Words.{◌⊕◌, spread, moved}
@@ -108,8 +108,19 @@ and_share site views shares s =
     let mine = and_sends views shares s in
     half_product site (own_triple v) (mine.d ⊕ v.d) (mine.e ⊕ v.e)
 
-abbrev pub and_settled : Site → List GateView → List ℕ → LayerAnd → List ℕ
-and_settled site views shares s = slice_set shares s.gate (and_share site views shares s)
+-- the same put in its place, where the operands' shares are these
+abbrev pub and_put : Site → List GateView → List ℕ → List ℕ → LayerAnd → List ℕ
+and_put site views before shares s = slice_set shares s.gate (and_share site views before s)
+
+-- the shares of And gates, from both frames and the triples of the views
+abbrev pub settled_by : Site → List GateView → List LayerAnd → List ℕ → List ℕ → List ℕ → List ℕ
+settled_by site views [] sent heard shares = shares
+settled_by site views (s ∷ ss) [] heard shares = shares
+settled_by site views (s ∷ ss) (d ∷ []) heard shares = shares
+settled_by site views (s ∷ ss) (d ∷ e ∷ sent) [] shares = shares
+settled_by site views (s ∷ ss) (d ∷ e ∷ sent) (d' ∷ []) shares = shares
+settled_by site views (s ∷ ss) (d ∷ e ∷ sent) (d' ∷ e' ∷ heard) shares =
+    settled_by site views ss sent heard (slice_set shares s.gate (half_product site (own_triple (view_at views s.number)) (d ⊕ d') (e ⊕ e')))
 
 -- ---- gates whose shares come of shares alone
 abbrev pub linear_share : List ℕ → Gate → ℕ

@@ -22,7 +22,7 @@ state_of h = record {
 abbrev pub AtStage : HalfState → List ℕ → Stage → Type 0
 AtStage s frame Ready = Unit {0}
 AtStage s frame Sent = (s.taken < frame_count s.net) × (take (2 * length (layer_of s.net.gates (s.taken + 1)).ands) frame ≡ next_frame s)
-AtStage s frame Wanting = s.taken < frame_count s.net
+AtStage s frame Wanting = (s.taken < frame_count s.net) × (take (2 * length (layer_of s.net.gates (s.taken + 1)).ands) frame ≡ next_frame s)
 AtStage s frame Over = s.taken ≡ frame_count s.net
 
 pub record IsHalf (h : Inside) : Type 0 where

@@ -5,7 +5,7 @@ ghost use Rattle.std.specs.Borrow.{sem};
 use crate::finished::{Finished, write_outputs};
 use crate::holdings::Holdings;
 use crate::input_masks::r_words;
-use crate::rounds::{settle_layer, write_frame};
+use crate::rounds::{Exchange, settle_ands, share_rest, write_frame};
 use crate::schedule::Schedule;
 use crate::stage::Stage;
 use crate::step::{FrameErr, Step};
@@ -163,7 +163,12 @@ impl Half {
             mut outputs,
             ..
         } = self;
-        write_outputs(schedule.circuit(), &holdings, shares.as_slice(), &mut outputs);
+        write_outputs(
+            schedule.circuit(),
+            &holdings,
+            shares.as_slice(),
+            &mut outputs,
+        );
         let Holdings {
             site,
             own,
@@ -235,12 +240,21 @@ impl Half {
         requires long { length frame.now ≡ length (next_frame self.old) }
         ensures { self.new ≡ after_take self.old frame.now }
     {
-        settle_layer(
-            self.schedule.circuit(),
+        let layer = self.schedule.after(self.taken);
+        let frames = Exchange {
+            sent: &self.frame[..2 * layer.ands.len()],
+            heard: frame,
+        };
+        settle_ands(
             self.holdings.site(),
-            self.schedule.after(self.taken),
-            frame,
+            layer.ands.as_slice(),
+            frames,
             self.views.as_mut_slice(),
+            self.shares.as_mut_slice(),
+        );
+        share_rest(
+            self.schedule.circuit(),
+            layer.rest.as_slice(),
             self.shares.as_mut_slice(),
         );
         self.taken += 1;

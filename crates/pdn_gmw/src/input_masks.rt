@@ -12,12 +12,7 @@ use pdn_circuit::Gate;
 use std::alloc::Global;
 
 /// Of the words r of all Input gates those of one site's.
-pub fn r_words(
-    alloc: Global,
-    leaves: &[Leaf],
-    site: Site,
-    r: &[Word],
-) -> Result<Vec<Word>, Memory>
+pub fn r_words(alloc: Global, leaves: &[Leaf], site: Site, r: &[Word]) -> Result<Vec<Word>, Memory>
     requires { MasksThere r.now leaves.now }
     ensures { IfOk result (λ words. words.items ≡ flat_map (leaf_r site r.now) leaves.now) }
 {

@@ -120,7 +120,11 @@ fn add_leaf(leaves: &mut Vec<Leaf>, at: u32, inputs: u32, gate: &Gate) -> Result
     ensures leaves { OnOk result (leaves.new.items ≡ leaves.old.items ++ leaf_here at inputs gate.now) }
     ensures inputs { IfOk result (λ count. count ≡ inputs_after inputs gate.now) }
 {
-    let leaf = Leaf { at, inputs, gate: *gate };
+    let leaf = Leaf {
+        at,
+        inputs,
+        gate: *gate,
+    };
     match gate {
         Gate::Input { .. } => {
             leaves.push(leaf)?;

@@ -1,4 +1,4 @@
-use Rattle.std.proofs.Common.{◌≡◌, ℕ, take}
+use Rattle.std.proofs.Common.{◌≡◌, take}
 use Rattle.std.specs.List.{flat_map}
 use Rattle.pdn_gmw.specs.Known.{leaf_r}
 use Rattle.pdn_gmw.proofs.input_masks.r_words.Given as goal

@@ -1,4 +1,4 @@
-use Rattle.std.proofs.Common.{◌≡◌, ℕ, replicate}
+use Rattle.std.proofs.Common.{◌≡◌, replicate}
 use Rattle.pdn_gmw.specs.Layers.{no_layer}
 use Rattle.pdn_gmw.proofs.layers.empty_layers.Given as goal
 

@@ -1,14 +1,12 @@
-use Rattle.std.proofs.Common.{◌≡◌, ◌<◌, ◌≤◌, ◌+◌, ℕ, List, length, max, subst, refl, sym, ap, ◌∙◌, arith}
+use Rattle.std.proofs.Common.{◌≡◌, ◌<◌, ℕ, List, length, ap, ◌∙◌, arith}
 use Rattle.std.specs.Prelude.{slice_index, slice_index_or}
-use Rattle.std.specs.List.{fold}
 use Rattle.std.proofs.lemmas.List.{get_or_default, length-set, get_or_read}
 use Rattle.pdn_circuit.specs.declared.gate.Gate.{Gate}
 use Rattle.pdn_circuit.specs.declared.gate.Gate.TheVariants.{Const}
 use Rattle.pdn_circuit.specs.Gates.{Net}
 use Rattle.pdn_circuit.specs.Depths.{depths_of}
-use Rattle.pdn_gmw.specs.Steps.{frame_count}
-use Rattle.pdn_gmw.specs.Layers.{gate_at, number_of_and, no_layer, LayerWords, layer_more}
-use Rattle.pdn_gmw.proofs.Layering.{length-depths, no_deeper, layers_more, layers_begun, number_more, one_and}
+use Rattle.pdn_gmw.specs.Layers.{no_layer, LayerWords, layer_more}
+use Rattle.pdn_gmw.proofs.Layering.{length-depths, no_deeper, layers_more, number_more, one_and}
 use Rattle.pdn_gmw.proofs.layers.layer_list.Goals as goal
 
 pub index-requires : goal.index-requires

@@ -1,4 +1,4 @@
-use Rattle.std.proofs.Common.{◌≡◌, ◌≤◌, ℕ, length, take}
+use Rattle.std.proofs.Common.{◌≡◌, ◌≤◌, length, take}
 use Rattle.std.specs.List.{count_by}
 use Rattle.pdn_circuit.specs.Gates.{is_input}
 use Rattle.pdn_gmw.specs.Layers.{leaves_to}

@@ -1,4 +1,4 @@
-use Rattle.std.proofs.Common.{◌≡◌, ◌≤◌, ◌<◌, ◌^◌, ℕ, length}
+use Rattle.std.proofs.Common.{◌≤◌, ◌<◌, ◌^◌, ℕ, length}
 use Rattle.std.specs.Prelude.{slice_index_or}
 use Rattle.pdn_gmw.specs.Layers.{no_layer}
 use Rattle.pdn_gmw.proofs.layers.most_ands.Given as goal

@@ -1,5 +1,4 @@
-use Rattle.std.proofs.Common.{◌≡◌, ◌<◌, ℕ, length, ap, ◌∙◌, arith}
-use Rattle.pdn_circuit.specs.Gates.{Net}
+use Rattle.std.proofs.Common.{arith}
 use Rattle.pdn_gmw.proofs.Layering.{max_over}
 use Rattle.pdn_gmw.proofs.layers.rooms_of.Goals as goal
 

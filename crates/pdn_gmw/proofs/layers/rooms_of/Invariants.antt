@@ -1,4 +1,4 @@
-use Rattle.std.proofs.Common.{◌≡◌, ◌+◌, ℕ, max, length}
+use Rattle.std.proofs.Common.{◌≡◌, ◌+◌, max, length}
 use Rattle.std.specs.List.{fold}
 use Rattle.pdn_gmw.proofs.layers.rooms_of.Given as goal
 

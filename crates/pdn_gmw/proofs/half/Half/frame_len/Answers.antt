@@ -11,14 +11,14 @@ use Rattle.pdn_gmw.proofs.half.Half.frame_len.Goals as goal
 pub after-layer-requires : goal.after-layer-requires
 after-layer-requires c =
     let net : Net = c.self.inside.schedule in
-    let waits : c.self.inside.taken < frame_count net = subst (λ (t : Stage). AtStage (state_of c.self.inside) c.self.inside.frame.items t) (ap (λ (s : HalfState). s.stage) c.self.view_is ∙ c.requires) c.self.invariant.stage in
+    let waits : c.self.inside.taken < frame_count net = (subst (λ (t : Stage). AtStage (state_of c.self.inside) c.self.inside.frame.items t) (ap (λ (s : HalfState). s.stage) c.self.view_is ∙ c.requires) c.self.invariant.stage).0 in
     omega arith
 
 pub returns-clause-words : goal.returns-clause-words
 returns-clause-words c =
     let inv = c.self.invariant in
     let net : Net = c.self.inside.schedule in
-    let waits : c.self.inside.taken < frame_count net = subst (λ (t : Stage). AtStage (state_of c.self.inside) c.self.inside.frame.items t) (ap (λ (s : HalfState). s.stage) c.self.view_is ∙ c.requires) inv.stage in
+    let waits : c.self.inside.taken < frame_count net = (subst (λ (t : Stage). AtStage (state_of c.self.inside) c.self.inside.frame.items t) (ap (λ (s : HalfState). s.stage) c.self.view_is ∙ c.requires) inv.stage).0 in
     let ands : c.layer.inside.ands.items ≡ (layer_of net.gates (c.self.inside.taken + 1)).ands
     = ap (λ (l : LayerWords). l.ands) (c.layer.view_is ∙ c.after-layer.ensures.layer) in
     let two : 2 * c.len.result ≡ 2 * length (layer_of net.gates (c.self.inside.taken + 1)).ands = omega (arith, c.len.ensures, ap length ands) in
@@ -31,7 +31,7 @@ returns-clause-few c =
     let inv = c.self.invariant in
     let net : Net = c.self.inside.schedule in
     let few = inv.circuit.few_gates in
-    let waits : c.self.inside.taken < frame_count net = subst (λ (t : Stage). AtStage (state_of c.self.inside) c.self.inside.frame.items t) (ap (λ (s : HalfState). s.stage) c.self.view_is ∙ c.requires) inv.stage in
+    let waits : c.self.inside.taken < frame_count net = (subst (λ (t : Stage). AtStage (state_of c.self.inside) c.self.inside.frame.items t) (ap (λ (s : HalfState). s.stage) c.self.view_is ∙ c.requires) inv.stage).0 in
     let ands : c.layer.inside.ands.items ≡ (layer_of net.gates (c.self.inside.taken + 1)).ands
     = ap (λ (l : LayerWords). l.ands) (c.layer.view_is ∙ c.after-layer.ensures.layer) in
     omega (arith, c.len.ensures, ap length ands, few_ands net.gates (c.self.inside.taken + 1), few)

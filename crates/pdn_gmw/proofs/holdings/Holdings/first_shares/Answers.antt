@@ -1,10 +1,10 @@
-use Rattle.std.proofs.Common.{◌≡◌, ◌<◌, ◌≤◌, ℕ, List, length, map, replicate, subst, sym, ap, ◌∙◌, arith}
+use Rattle.std.proofs.Common.{◌≡◌, ◌<◌, ℕ, List, length, map, replicate, subst, sym, ap, ◌∙◌, arith}
 use Rattle.std.specs.Prelude.{slice_index}
 use Rattle.std.specs.List.{fold, range_with_len}
 use Rattle.std.specs.Vec.{with_items}
 use Rattle.std.proofs.lemmas.List.{with_items_is, length-replicate}
 use Rattle.pdn_circuit.specs.Gates.{Net, IsCircuit}
-use Rattle.pdn_gmw.specs.Layers.{LayerWords, Leaf, layer_of, leaves_of}
+use Rattle.pdn_gmw.specs.Layers.{LayerWords, layer_of}
 use Rattle.pdn_gmw.specs.Known.{LeavesThere, leaf_at, leaf_settled, linear_settled}
 use Rattle.pdn_gmw.proofs.Stepping.{rest_there}
 use Rattle.pdn_gmw.proofs.Leaves.{leaves_there, leaves_settled}
