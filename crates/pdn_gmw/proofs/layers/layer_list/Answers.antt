@@ -1,15 +1,13 @@
-use Rattle.std.proofs.Common.{◌≡◌, ◌<◌, ◌≤◌, ◌+◌, ℕ, List, length, max, subst, refl, sym, ap, ◌∙◌, arith}
+use Rattle.std.proofs.Common.{◌≡◌, ◌<◌, ℕ, List, length, ap, ◌∙◌, arith}
 use Rattle.std.specs.Prelude.{slice_index, slice_index_or}
-use Rattle.std.specs.List.{fold}
 use Rattle.std.proofs.lemmas.List.{get_or_default, length-set, get_or_read}
 use Rattle.pdn_circuit.specs.declared.gate.Gate.{Gate}
 use Rattle.pdn_circuit.specs.declared.gate.Gate.TheVariants.{Const}
 use Rattle.pdn_circuit.specs.Gates.{Net}
 use Rattle.pdn_circuit.specs.Depths.{depths_of}
-use Rattle.pdn_gmw.specs.Steps.{frame_count}
-use Rattle.pdn_gmw.specs.Layers.{gate_at, number_of_and, no_layer, LayerWords, layer_more}
-use Rattle.pdn_gmw.proofs.Layering.{length-depths, no_deeper, layers_more, layers_begun, number_more, one_and}
-use Rattle.pdn_gmw.proofs.layers.layers_of.Goals as goal
+use Rattle.pdn_gmw.specs.Layers.{no_layer, LayerWords, layer_more}
+use Rattle.pdn_gmw.proofs.Layering.{length-depths, no_deeper, layers_more, number_more, one_and}
+use Rattle.pdn_gmw.proofs.layers.layer_list.Goals as goal
 
 pub index-requires : goal.index-requires
 index-requires c =
@@ -47,3 +45,6 @@ loop-k-preserved c =
       at = layers_more net c.loop-k.layers.items k c.index.result.now c.loop-k.ands gate c.add.new.self (item ∙ get_or_default net.gates k gate (Const 0) here) depth inv.ands inv.long inv.at
           (c.in_ok-ands.ensures.layer ∙ ap (λ (l : LayerWords). layer_more l k c.loop-k.ands gate) layer);
     }
+
+pub rooms_of-requires : goal.rooms_of-requires
+rooms_of-requires c = ap length (c.deref.ensures.value ∙ c.in_ok-depths.ensures.depths) ∙ length-depths c.args.circuit.now.gates

@@ -1,7 +1,7 @@
-use Rattle.std.proofs.Common.{◌≡◌, ◌≤◌, ◌<◌, ◌^◌, ℕ, length}
+use Rattle.std.proofs.Common.{◌≤◌, ◌<◌, ◌^◌, ℕ, length}
 use Rattle.std.specs.Prelude.{slice_index_or}
 use Rattle.pdn_gmw.specs.Layers.{no_layer}
-use Rattle.pdn_gmw.proofs.half.most_ands.Given as goal
+use Rattle.pdn_gmw.proofs.layers.most_ands.Given as goal
 
 abbrev pub invariant-loop-layer : goal.invariant-loop-layer
 invariant-loop-layer l = record {

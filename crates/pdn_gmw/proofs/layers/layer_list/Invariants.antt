@@ -1,8 +1,8 @@
-use Rattle.std.proofs.Common.{◌≡◌, ◌≤◌, ◌<◌, ◌+◌, ℕ, length}
+use Rattle.std.proofs.Common.{◌≡◌, ◌≤◌, ◌+◌, ℕ, length}
 use Rattle.std.specs.Prelude.{slice_index_or}
 use Rattle.pdn_gmw.specs.Steps.{frame_count}
 use Rattle.pdn_gmw.specs.Layers.{no_layer, number_of_and, layer_to}
-use Rattle.pdn_gmw.proofs.layers.layers_of.Given as goal
+use Rattle.pdn_gmw.proofs.layers.layer_list.Given as goal
 
 abbrev pub invariant-loop-k : goal.invariant-loop-k
 invariant-loop-k l = record {
