@@ -13,8 +13,9 @@ use Rattle.pdn_circuit.specs.declared.gate.Gate.{Gate}
 use Rattle.pdn_circuit.specs.declared.gate.Gate.TheVariants.{Input, Given, Const, Xor, And, Spread, Move}
 use Rattle.pdn_circuit.specs.Gates.{Net, InputWords, words_of, gate_value, next_values, Pair, read_pair, ands, operand_words, InOrder, operands_of}
 use Rattle.pdn_circuit.proofs.ValueLaws.{opens, opened, operand_words_along}
-use Rattle.pdn_dealer.specs.Sections.{Five, no_five, Layout, Triple, Covers, product_of, triple_of, part_of}
-use Rattle.pdn_gmw.specs.Shares.{World, Masked, Walk, start, five_at, product_share, a_share, a_sends, b_sends, inputs_after, step, walk, share_at, sent_to, output_shares, gate_view, view_of}
+use Rattle.pdn_dealer.specs.declared.parts.Triple.{Triple}
+use Rattle.pdn_dealer.specs.Sections.{Five, no_five, Layout, Covers, product_of, triple_of, part_of}
+use Rattle.pdn_gmw.specs.Shares.{World, Walk, start, five_at, product_share, a_share, a_sends, b_sends, inputs_after, step, walk, share_at, sent_to, output_shares, gate_view, view_of}
 use Rattle.pdn_gmw.specs.Halves.{given_shares}
 use Rattle.pdn_shift.specs.Changes.{taken_up, operand_differences, shift}
 use Rattle.pdn_shift.specs.Worlds.{IsShared, SameFor, UnitLaw}
@@ -107,7 +108,7 @@ and_same_b f g x y u v e =
 
 five_here : (site : Site) (t s : Layout) (w v : Walk) (x y : ℕ) → Near site w v → IsChangedAt site t s w v (And x y)
     → five_at s (length v.from_a) ≡ changed site (record { x = slice_index w.words x; y = slice_index w.words y }) (record { x = slice_index v.words x; y = slice_index v.words y }) (five_at t (length w.from_a))
-five_here site t s w v x y n c = ap (λ (fs : List Masked). five_at s (length fs)) (sym n.from_a) ∙ c
+five_here site t s w v x y n c = ap (λ (fs : List _). five_at s (length fs)) (sym n.from_a) ∙ c
 
 new_same : (site : Site) (first second : World) (t s : Layout) (w v : Walk) (gate : Gate) → SamePlaces site first second → s.r ≡ t.r → Near site w v → IsChangedAt site t s w v gate
     → new_share site first t w gate ≡ new_share site second s v gate
@@ -185,8 +186,8 @@ near_next site first second t s w v gate same r n c =
     let lb = length-append v.a (a_share second s v gate ∷ []) in
     record {
       share = share_next site first second t s w v gate n (new_same site first second t s w v gate same r n c);
-      from_a = ap (λ (fs : List Masked). fs ++ a_sends t w gate) n.from_a ∙ ap (λ (fs : List Masked). v.from_a ++ fs) (a_sends_same site t s w v gate n c);
-      from_b = ap (λ (fs : List Masked). fs ++ b_sends t w gate) n.from_b ∙ ap (λ (fs : List Masked). v.from_b ++ fs) (b_sends_same site t s w v gate n c);
+      from_a = ap (λ (fs : List _). fs ++ a_sends t w gate) n.from_a ∙ ap (λ (fs : List _). v.from_a ++ fs) (a_sends_same site t s w v gate n c);
+      from_b = ap (λ (fs : List _). fs ++ b_sends t w gate) n.from_b ∙ ap (λ (fs : List _). v.from_b ++ fs) (b_sends_same site t s w v gate n c);
       inputs = ap (λ k. inputs_after k gate) n.inputs;
       long = let l = n.long in omega arith;
       words = let l = n.words in omega arith;
@@ -290,7 +291,7 @@ unit_law site net first second t o c one two same =
     = map_same (share_at site (walk first t net.gates)) (share_at site (walk second s net.gates)) net.outputs n.share in
     record {
       view = ap (λ (ds : List Triple). record (view_of site first t net) { gates = zip2 gate_view ds (sent_to site (walk first t net.gates)) }) (sym kept)
-          ∙ ap (λ (fs : List Masked). record (view_of site first t net) { gates = zip2 gate_view (part_of site s).triples fs }) (sent_same_to site _ _ n);
+          ∙ ap (λ (fs : List _). record (view_of site first t net) { gates = zip2 gate_view (part_of site s).triples fs }) (sent_same_to site _ _ n);
       shares = shares;
       outputs = ap (λ (xs : List ℕ). cond net.released (xor_lists xs t.masks) xs) shares;
     }
