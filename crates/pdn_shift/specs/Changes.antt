@@ -1,6 +1,6 @@
 -- The change of a unit's section between two worlds: a site's own words of it stay, and the other site's masks take up
 -- what differs.
-use Rattle.std.specs.Prelude.{◌≡◌, ℕ, List, length, map}
+use Rattle.std.specs.Prelude.{◌≡◌, ℕ, ◌+◌, ◌*◌, List, ◌++◌, length, map, take, drop}
 use Rattle.std.specs.List.{flat_map}
 use lib.Lanes.{zip2}
 use Rattle.pdn_base.specs.Words.{◌⊕◌, xor_lists}
@@ -8,7 +8,7 @@ use Rattle.pdn_base.specs.declared.site.Site.{Site}
 use Rattle.pdn_base.specs.declared.site.Site.TheVariants.{A, B}
 use Rattle.pdn_circuit.specs.declared.gate.Gate.{Gate}
 use Rattle.pdn_circuit.specs.Gates.{Net, InputWords, values, Pair, read_pair, ands}
-use Rattle.pdn_dealer.specs.Sections.{Five, Layout, five_words, fives_of, product_of, Covers, section_length, layout_of, layout_words}
+use Rattle.pdn_dealer.specs.Sections.{Five, Layout, five_words, fives_of, product_of, Covers, r_count, five_count, section_length, layout_of, layout_words}
 
 -- by which words the gates' values differ
 abbrev pub differences : InputWords → InputWords → List Gate → List ℕ
@@ -53,3 +53,10 @@ BackWordsLaw = (site : Site) (net : Net) (first second : InputWords) (words : Li
 -- the changed words of some And gates, where `words` begin with the first one's five
 abbrev pub fives_changed : Site → List ℕ → List Pair → List ℕ → List ℕ
 fives_changed site differences ps words = flat_map five_words (zip2 (taken_up site) (map (read_pair differences) ps) (fives_of (length ps) words))
+
+-- a whole section, where the gates' values differ by these words
+abbrev pub section_changed : Site → Net → List ℕ → List ℕ → List ℕ
+section_changed site net differences words =
+    take (r_count net) words
+    ++ fives_changed site differences (ands net.gates) (drop (r_count net) words)
+    ++ drop (r_count net + 5 * five_count net) words

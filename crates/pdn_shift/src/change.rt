@@ -1,9 +1,8 @@
 //! The change of a section between two worlds.
-ghost use Rattle.std.specs.Prelude.{◌≡◌, ◌<◌, ◌≤◌, ◌*◌, ◌++◌, ℕ, length, IfOk, OnOk, slice_index_or};
-ghost use Rattle.pdn_circuit.specs.Gates.{HasCounts, NamesBelow, ands, operands_of};
-ghost use Rattle.pdn_circuit.specs.declared.gate.Gate.{Gate};
+ghost use Rattle.std.specs.Prelude.{◌≡◌, ◌≤◌, ◌*◌, ◌++◌, length, IfOk, OnOk};
+ghost use Rattle.pdn_circuit.specs.Gates.{HasCounts, InOrder, NamesBelow, ands, operands_of};
 ghost use Rattle.pdn_dealer.specs.Sections.{r_count, section_length, five_of, five_words};
-ghost use Rattle.pdn_shift.specs.Changes.{differences, taken_up, shift_words, fives_changed};
+ghost use Rattle.pdn_shift.specs.Changes.{differences, taken_up, shift_words, fives_changed, section_changed};
 ghost use Rattle.pdn_shift.specs.Worlds.{LooksAlike};
 
 use pdn_base::{Memory, Site, Word, xor_words};
@@ -32,11 +31,28 @@ pub fn shift(
     ensures back { IfOk result (λ new. shift_words site circuit.now second.now first.now new.items ≡ words.now) }
 {
     let differences = differences(alloc, circuit, first, second)?;
+    changed_section(alloc, site, circuit, &differences, words)
+}
+
+// The section, changed where the gates' words in both worlds differ by these. That the gates are in order is what every
+// circuit keeps.
+fn changed_section(
+    alloc: Global,
+    site: Site,
+    circuit: &Circuit,
+    differences: &[Word],
+    words: &[Word],
+) -> Result<Vec<Word>, Memory>
+    requires long { length differences.now ≡ length circuit.now.gates }
+    requires words { length words.now ≡ section_length circuit.now }
+    ensures changed { IfOk result (λ new. new.items ≡ section_changed site circuit.now differences.now words.now) }
+    ensures order { InOrder circuit.now.gates }
+{
     let inputs = input_gates(circuit);
     let mut changed = Vec::with_capacity(alloc, words.len())?;
     changed.extend_from_slice(&words[..inputs])?;
     let fives = &words[inputs..];
-    let taken = push_fives(site, &circuit.gates, &differences, fives, &mut changed)?;
+    let taken = push_fives(site, &circuit.gates, differences, fives, &mut changed)?;
     changed.extend_from_slice(&fives[taken..])?;
     Ok(changed)
 }
@@ -77,7 +93,8 @@ fn push_fives(
     words: &[Word],
     changed: &mut Vec<Word>,
 ) -> Result<usize, Memory>
-    requires named { (k : ℕ) (other : Gate) → k < length gates.now → NamesBelow (length differences.now) (slice_index_or gates.now k other) }
+    requires order { InOrder gates.now }
+    requires long { length differences.now ≡ length gates.now }
     requires room { 5 * length (ands gates.now) ≤ length words.now }
     ensures words { OnOk result (changed.new.items ≡ changed.old.items ++ fives_changed site differences.now (ands gates.now) words.now) }
     ensures taken { IfOk result (λ taken. taken ≡ 5 * length (ands gates.now)) }
