@@ -22,3 +22,36 @@ fn words(alloc: Global, numbers: &[u64]) -> Result<Vec<Word>, Memory>
     let words = numbers.iter().map(|n| Word::from_u64(*n)).collect(alloc)?;
     Ok(words)
 }
+
+fn inputs(alloc: Global, a: u64, b: u64) -> Result<Inputs, Memory>
+    ensures a { IfOk result (λ inputs. length inputs.a ≡ 1) }
+    ensures b { IfOk result (λ inputs. length inputs.b ≡ 1) }
+    ensures given { IfOk result (λ inputs. length inputs.given ≡ 0) }
+{
+    Ok(Inputs {
+        a: words(alloc, &[a])?,
+        b: words(alloc, &[b])?,
+        given: Vec::new(alloc),
+    })
+}
+
+// One And gate of a word of A and a word of B.
+fn one_and(alloc: Global) -> Result<Circuit, Fail> {
+    let mut builder = Builder::new(alloc, 1, 10)?;
+    let x = builder.input(Site::A)?;
+    let y = builder.input(Site::B)?;
+    let z = builder.and(x, y)?;
+    let mut outputs = Vec::new(alloc);
+    outputs.push(z)?;
+    Ok(builder.finish(outputs, true))
+}
+
+// Whether the circuit takes a word of each site, and the section has as many words as it needs.
+fn fits(circuit: &Circuit, section: &[u64]) -> bool
+    ensures { IsTrue result → TakesOneEach circuit.now × (length section.now ≡ section_length circuit.now) }
+{
+    circuit.input_count(Site::A) == 1
+        && circuit.input_count(Site::B) == 1
+        && circuit.given_count() == 0
+        && section.len() as u64 == section_len(circuit)
+}

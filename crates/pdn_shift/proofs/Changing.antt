@@ -1,5 +1,6 @@
 -- The change of a section along the gates.
 use Rattle.std.proofs.Common.{◌≡◌, ℕ, suc, ◌+◌, ◌-◌, ◌*◌, ◌<◌, ◌≤◌, List, [], ◌∷◌, ◌++◌, length, get_or, take, drop, map, refl, sym, ap, ◌∙◌, subst, arith, length-append, length-drop, append_assoc}
+use Rattle.std.specs.Prelude.{Result, Ok, Err, IfOk}
 use Rattle.std.specs.List.{flat_map}
 use Rattle.std.proofs.lemmas.List.{drop-drop, take_more, take_all, take_rest}
 use Rattle.std.proofs.lemmas.List.Folds.{length-flat_map-take}
@@ -90,3 +91,8 @@ module _ (site : Site) (net : Net) (first second : InputWords) (old new : List �
 
   pub gives_back : shift_words site net second first new ≡ old
   gives_back = ap (shift_words site net second first) e ∙ (back_words_law site net first second old l).back
+
+-- ---- two facts of one result
+pub if_both : {X E : Type 0} (r : Result X E) (P Q R : X → Type 0) → ((x : X) → P x → Q x → R x) → IfOk r P → IfOk r Q → IfOk r R
+if_both (Ok x) P Q R f p q = f x p q
+if_both (Err e) P Q R f p q = tt

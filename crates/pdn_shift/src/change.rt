@@ -46,7 +46,7 @@ fn changed_section(
     requires long { length differences.now ≡ length circuit.now.gates }
     requires words { length words.now ≡ section_length circuit.now }
     ensures changed { IfOk result (λ new. new.items ≡ section_changed site circuit.now differences.now words.now) }
-    ensures order { InOrder circuit.now.gates }
+    ensures order { IfOk result (λ _. InOrder circuit.now.gates) }
 {
     let inputs = input_gates(circuit);
     let mut changed = Vec::with_capacity(alloc, words.len())?;
