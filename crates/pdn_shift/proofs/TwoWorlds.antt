@@ -11,7 +11,7 @@ use Rattle.pdn_base.specs.declared.site.Site.{Site}
 use Rattle.pdn_base.specs.declared.site.Site.TheVariants.{A, B}
 use Rattle.pdn_circuit.specs.declared.gate.Gate.{Gate}
 use Rattle.pdn_circuit.specs.declared.gate.Gate.TheVariants.{Input, Given, Const, Xor, And, Spread, Move}
-use Rattle.pdn_circuit.specs.Gates.{Net, InputWords, words_of, gate_value, next_values, Pair, read_pair, ands, operand_words, InOrder, operands_of}
+use Rattle.pdn_circuit.specs.Gates.{Net, words_of, gate_value, next_values, Pair, read_pair, ands, InOrder, operands_of}
 use Rattle.pdn_circuit.proofs.ValueLaws.{opens, opened, operand_words_along}
 use Rattle.pdn_dealer.specs.declared.parts.Triple.{Triple}
 use Rattle.pdn_dealer.specs.Sections.{Five, no_five, Layout, Covers, product_of, triple_of, part_of}

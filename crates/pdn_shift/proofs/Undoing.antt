@@ -10,9 +10,9 @@ use Rattle.pdn_base.specs.declared.site.Site.TheVariants.{A, B}
 use Rattle.pdn_circuit.specs.declared.gate.Gate.{Gate}
 use Rattle.pdn_circuit.specs.Gates.{Net, InputWords, values, Pair, read_pair, ands, operand_words}
 use Rattle.pdn_circuit.proofs.Reading.{length-values}
-use Rattle.pdn_dealer.specs.Sections.{Five, Layout, Covers, product_of, layout_words, layout_of}
+use Rattle.pdn_dealer.specs.Sections.{Five, Layout, product_of, layout_words, layout_of}
 use Rattle.pdn_dealer.proofs.SectionWords.{covers_of, words_of_layout, layout_of_words, length-layout_words}
-use Rattle.pdn_shift.specs.Changes.{differences, operand_differences, taken_up, shift, shift_words, BackLaw, BackWordsLaw}
+use Rattle.pdn_shift.specs.Changes.{operand_differences, taken_up, shift, BackLaw, BackWordsLaw}
 
 -- ---- the differences, told from both worlds' operands
 abbrev pub apart : Pair → Pair → Pair

@@ -1,7 +1,6 @@
 -- The change of one And gate's section, worked out by hand.
 use Rattle.std.specs.Prelude.{◌≡◌, ℕ, List, [], ◌∷◌}
 use Rattle.pdn_base.specs.declared.site.Site.TheVariants.{A, B}
-use Rattle.pdn_circuit.specs.Gates.{InputWords}
 use Rattle.pdn_dealer.specs.Sections.{layout_of}
 use Rattle.pdn_gmw.specs.Shares.{World, view_of, put_out}
 use Rattle.pdn_gmw.specs.SmallRun.{and_net, and_world, and_words}

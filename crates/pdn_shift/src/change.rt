@@ -26,9 +26,12 @@ pub fn shift(
     requires first { HasCounts circuit.now first.now }
     requires second { HasCounts circuit.now second.now }
     requires words { length words.now ≡ section_length circuit.now }
-    ensures changed { IfOk result (λ new. new.items ≡ shift_words site circuit.now first.now second.now words.now) }
-    ensures alike { IfOk result (λ new. LooksAlike site circuit.now first.now second.now words.now new.items) }
-    ensures back { IfOk result (λ new. shift_words site circuit.now second.now first.now new.items ≡ words.now) }
+    ensures changed { IfOk result (λ new.
+        new.items ≡ shift_words site circuit.now first.now second.now words.now) }
+    ensures alike { IfOk result (λ new.
+        LooksAlike site circuit.now first.now second.now words.now new.items) }
+    ensures back { IfOk result (λ new.
+        shift_words site circuit.now second.now first.now new.items ≡ words.now) }
 {
     let differences = differences(alloc, circuit, first, second)?;
     changed_section(alloc, site, circuit, &differences, words)
@@ -45,7 +48,8 @@ fn changed_section(
 ) -> Result<Vec<Word>, Memory>
     requires long { length differences.now ≡ length circuit.now.gates }
     requires words { length words.now ≡ section_length circuit.now }
-    ensures changed { IfOk result (λ new. new.items ≡ section_changed site circuit.now differences.now words.now) }
+    ensures changed { IfOk result (λ new.
+        new.items ≡ section_changed site circuit.now differences.now words.now) }
     ensures order { IfOk result (λ _. InOrder circuit.now.gates) }
 {
     let inputs = input_gates(circuit);
@@ -96,7 +100,8 @@ fn push_fives(
     requires order { InOrder gates.now }
     requires long { length differences.now ≡ length gates.now }
     requires room { 5 * length (ands gates.now) ≤ length words.now }
-    ensures words { OnOk result (changed.new.items ≡ changed.old.items ++ fives_changed site differences.now (ands gates.now) words.now) }
+    ensures words { OnOk result (
+        changed.new.items ≡ changed.old.items ++ fives_changed site differences.now (ands gates.now) words.now) }
     ensures taken { IfOk result (λ taken. taken ≡ 5 * length (ands gates.now)) }
 {
     let mut at = 0;
@@ -116,7 +121,8 @@ fn push_gate(
 ) -> Result<usize, Memory>
     requires named { NamesBelow (length differences.now) gate.now }
     requires room { 5 * length (operands_of gate.now) ≤ length words.now }
-    ensures words { OnOk result (changed.new.items ≡ changed.old.items ++ fives_changed site differences.now (operands_of gate.now) words.now) }
+    ensures words { OnOk result (
+        changed.new.items ≡ changed.old.items ++ fives_changed site differences.now (operands_of gate.now) words.now) }
     ensures taken { IfOk result (λ taken. taken ≡ 5 * length (operands_of gate.now)) }
 {
     match gate {

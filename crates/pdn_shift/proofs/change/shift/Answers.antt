@@ -1,4 +1,4 @@
-use Rattle.std.proofs.Common.{◌≡◌, List, ℕ, Vec, length, ap, ◌∙◌}
+use Rattle.std.proofs.Common.{List, ℕ, length, ap, ◌∙◌}
 use Rattle.std.proofs.lemmas.Result.{IfOk-weaker}
 use Rattle.pdn_shift.specs.Changes.{section_changed}
 use Rattle.pdn_shift.proofs.Changing.{length-differences, looks_alike, gives_back, if_both}
