@@ -79,7 +79,8 @@ fn takes_one_each(circuit: &Circuit) -> bool
     a == 1 && b == 1 && given == 0
 }
 
-// The section's change from one world's words to another's; no words where the section doesn't fit the circuit.
+// The section's change from one world's words to another's; no words where the section doesn't fit
+// the circuit.
 fn shifted(
     alloc: Global,
     circuit: &Circuit,

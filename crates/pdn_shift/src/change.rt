@@ -1,20 +1,22 @@
 //! The change of a section between two worlds.
 ghost use Rattle.std.specs.Prelude.{◌≡◌, ◌≤◌, ◌*◌, ◌++◌, length, IfOk, OnOk};
-ghost use Rattle.pdn_circuit.specs.Gates.{HasCounts, InOrder, NamesBelow, ands, operands_of};
+ghost use Rattle.pdn_circuit.specs.Gates.{HasCounts, InOrder, NamesBelow, Pair, ands, operands_of};
 ghost use Rattle.pdn_dealer.specs.Sections.{r_count, section_length, five_of, five_words};
-ghost use Rattle.pdn_shift.specs.Changes.{differences, taken_up, shift_words, fives_changed, section_changed};
+ghost use Rattle.pdn_shift.specs.Changes.{differences, taken_up, shift_words};
+ghost use Rattle.pdn_shift.specs.Changes.{fives_changed, section_changed};
 ghost use Rattle.pdn_shift.specs.Worlds.{LooksAlike};
 
 use pdn_base::{Memory, Site, Word, xor_words};
 use pdn_circuit::{Circuit, Gate, Inputs, eval};
 use std::alloc::Global;
 
-/// The section on which the site sees in the second world what it sees in the first on `words`, where its own input words
-/// and its own shares of the given words are the same in both. `words` are as many as the circuit needs, and so is the
-/// result; `first` and `second` have as many words as the circuit takes, the given ones in plain. At each And gate the
-/// other site's a and b take up the XOR of both worlds' words of the operands, and where the site is B, c0 takes up the
-/// old and the new product of both sites' a and both sites' b. All other words are kept. The change from the second world
-/// to the first, made after it, gives `words` back.
+/// The change of a section between two worlds. Where the site's own input words and its own shares
+/// of the given words are the same in both, it sees in the second world on the result what it sees
+/// in the first on `words`. `words` are as many as the circuit needs, and so is the result; `first`
+/// and `second` have as many words as the circuit takes, the given ones in plain. At each And gate
+/// the other site's a and b take up the XOR of both worlds' words of the operands; for B, c0 takes up
+/// the old and the new product of both sites' a and both sites' b. All other words are kept. The
+/// change from the second world to the first, made after it, gives `words` back.
 pub fn shift(
     alloc: Global,
     site: Site,
@@ -37,8 +39,8 @@ pub fn shift(
     changed_section(alloc, site, circuit, &differences, words)
 }
 
-// The section, changed where the gates' words in both worlds differ by these. That the gates are in order is what every
-// circuit keeps.
+// The section, changed where the gates' words in both worlds differ by these. That the gates are in
+// order is what every circuit keeps.
 fn changed_section(
     alloc: Global,
     site: Site,
@@ -70,7 +72,8 @@ fn differences(
 ) -> Result<Vec<Word>, Memory>
     requires first { HasCounts circuit.now first.now }
     requires second { HasCounts circuit.now second.now }
-    ensures { IfOk result (λ words. words.items ≡ differences first.now second.now circuit.now.gates) }
+    ensures { IfOk result (λ words.
+        words.items ≡ differences first.now second.now circuit.now.gates) }
 {
     let old = eval(alloc, circuit, first)?;
     let new = eval(alloc, circuit, second)?;
@@ -89,7 +92,8 @@ fn input_gates(circuit: &Circuit) -> usize
         .count()
 }
 
-// Adds the changed words of all And gates, of which `words` begin with the first one's, and gives how many they are.
+// Adds the changed words of all And gates, of which `words` begin with the first one's, and gives
+// how many they are.
 fn push_fives(
     site: Site,
     gates: &[Gate],
@@ -101,7 +105,8 @@ fn push_fives(
     requires long { length differences.now ≡ length gates.now }
     requires room { 5 * length (ands gates.now) ≤ length words.now }
     ensures words { OnOk result (
-        changed.new.items ≡ changed.old.items ++ fives_changed site differences.now (ands gates.now) words.now) }
+        changed.new.items ≡ changed.old.items
+        ++ fives_changed site differences.now (ands gates.now) words.now) }
     ensures taken { IfOk result (λ taken. taken ≡ 5 * length (ands gates.now)) }
 {
     let mut at = 0;
@@ -111,7 +116,8 @@ fn push_fives(
     Ok(at)
 }
 
-// Adds the changed words of one gate, which stand in front if it is an And gate, and gives how many they are.
+// Adds the changed words of one gate, which stand in front if it is an And gate, and gives how many
+// they are.
 fn push_gate(
     site: Site,
     gate: &Gate,
@@ -122,7 +128,8 @@ fn push_gate(
     requires named { NamesBelow (length differences.now) gate.now }
     requires room { 5 * length (operands_of gate.now) ≤ length words.now }
     ensures words { OnOk result (
-        changed.new.items ≡ changed.old.items ++ fives_changed site differences.now (operands_of gate.now) words.now) }
+        changed.new.items ≡ changed.old.items
+        ++ fives_changed site differences.now (operands_of gate.now) words.now) }
     ensures taken { IfOk result (λ taken. taken ≡ 5 * length (operands_of gate.now)) }
 {
     match gate {
@@ -143,7 +150,8 @@ fn push_gate(
 // The changed words of an And gate whose operands differ by x and y.
 fn taken_up(site: Site, five: &[Word], x: &Word, y: &Word) -> [Word; 5]
     requires { 5 ≤ length five.now }
-    ensures { result ≡ five_words (taken_up site (record { x = x.now; y = y.now }) (five_of five.now)) }
+    ensures { let d : Pair = record { x = x.now; y = y.now } in
+        result ≡ five_words (taken_up site d (five_of five.now)) }
 {
     let (a0, a1, b0, b1, c0) = (five[0], five[1], five[2], five[3], five[4]);
     match site {
