@@ -14,8 +14,8 @@ use std::alloc::Global;
 /// of the given words are the same in both, it sees in the second world on the result what it sees
 /// in the first on `words`. `words` are as many as the circuit needs, and so is the result; `first`
 /// and `second` have as many words as the circuit takes, the given ones in plain. At each And gate
-/// the other site's a and b take up the XOR of both worlds' words of the operands; for B, c0 takes up
-/// the old and the new product of both sites' a and both sites' b. All other words are kept. The
+/// the other site's a and b take up the XOR of both worlds' words of the operands; for B, c0 takes
+/// up the old and the new product of both sites' a and both sites' b. All other words are kept. The
 /// change from the second world to the first, made after it, gives `words` back.
 pub fn shift(
     alloc: Global,
