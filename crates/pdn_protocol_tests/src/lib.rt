@@ -8,3 +8,5 @@ mod dealers;
 mod halves;
 #[cfg(test)]
 mod kernels;
+#[cfg(test)]
+mod shifts;
