@@ -1,0 +1,2 @@
+//! Tests of the desk's keeper: nothing but tests of public calls.
+#![tactic(auto)]
