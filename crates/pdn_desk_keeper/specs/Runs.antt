@@ -1,6 +1,6 @@
 -- Any calls of one keeper, one after another, and the tickets that they gave.
-use Rattle.std.specs.Prelude.{◌≡◌, ◌≤◌, ◌<◌, ◌^◌, nat_lt, ℕ, List, [], ◌∷◌, ◌++◌, Option, Some, Ok, Err, IfSome, if◌then◌else◌, ⊤}
-use Rattle.std.specs.List.{All}
+use Rattle.std.specs.Prelude.{◌≡◌, ◌≤◌, ◌<◌, ◌^◌, nat_lt, ℕ, List, [], ◌∷◌, ◌++◌, Option, Some, Ok, Err, IfSome, if◌then◌else◌}
+use Rattle.std.specs.List.{All, AllPairs}
 use Rattle.pdn_desk_keeper.specs.Desks.{DeskHeld, Step, Ticket, Find, Keep, Count, IsAnswer, Stands}
 
 -- from old, the keeper may answer these calls so, and then holds new
@@ -19,8 +19,7 @@ tickets (Count caller result ∷ steps) = tickets steps
 
 -- each is less than all that come after it
 abbrev pub Rising : List ℕ → Type 0
-Rising [] = ⊤
-Rising (x ∷ xs) = All (λ y. x < y) xs × Rising xs
+Rising xs = AllPairs (λ x y. x < y) xs
 
 -- The tickets of a run rise, from the next one before it on, and stay below the next one after it.
 pub record RunRises (held now : DeskHeld) (given : List ℕ) : Type 0 where

@@ -53,13 +53,14 @@ impl MemDesk {
     ghost use Rattle.pdn_base.specs.Outside.{no_calls};
 
     /// Nothing is kept; `next` is the next ticket, and `fail` has the numbers of the calls that are to fail.
-    pub fn new(alloc: Global, next: u64, fail: Vec<u64>) -> MemDesk
+    pub fn new(next: u64, fail: Vec<u64>) -> MemDesk
         requires { next ≤ 2 ^ 40 }
         ensures { result ≡ record { held = record { next = next; calls = [] }; made = no_calls fail.items } }
     {
+        let kept = Vec::new(*fail.allocator());
         MemDesk {
             next,
-            kept: Vec::new(alloc),
+            kept,
             calls: Calls::new(fail),
         }
     }
@@ -148,10 +149,10 @@ impl DeskKeeper for MemDesk {
         ensures exact { result ≡ (if fails_next self.old.made then Err KeepErr.Failed else Ok self.old.held.next) }
         ensures refused { OnErr result (self.new.held ≡ self.old.held) }
     {
+        let ticket = self.next;
         if self.calls.fails() {
             return Err(KeepErr::Failed);
         }
-        let ticket = self.next;
         if ticket < TICKETS {
             self.next = ticket + 1;
         }
