@@ -2,7 +2,8 @@
 ghost use Rattle.std.specs.Prelude.{◌≡◌, ◌≤◌, ◌^◌, ◌++◌, ◌∷◌, [], IfOk, IfSome, OnOk, OnErr, All};
 ghost use Rattle.std.specs.List.{find};
 ghost use Rattle.std.specs.Option.{option_copied};
-ghost use Rattle.pdn_desk_keeper.specs.Desks.{KeptCall, is_call, count_calls, kept_call, kept_text, IsShortText};
+ghost use Rattle.pdn_desk_keeper.specs.Desks.{KeptCall, is_call, kept_call};
+ghost use Rattle.pdn_desk_keeper.specs.Desks.{count_calls, kept_text, IsShortText};
 
 use crate::{DeskKeeper, Kept};
 use pdn_base::{Calls, Memory};
@@ -21,8 +22,8 @@ struct Call {
 /// How many tickets there are: the next one is at most this.
 const TICKETS: u64 = 1 << 40;
 
-/// A desk's keeper in memory, whose calls fail at those that are listed, by number from 1; nothing is then changed. With
-/// an empty list none fails.
+/// A desk's keeper in memory, whose calls fail at those that are listed, by number from 1; nothing
+/// is then changed. With an empty list none fails.
 #[derive(Drop)]
 pub struct MemDesk {
     next: u64,
@@ -44,18 +45,24 @@ impl Model for MemDesk {
 
     ghost Value = { DeskMemory };
 
-    ghost view = { λ d. record { held = record { next = d.next; calls = d.kept.items }; made = d.calls } };
+    ghost view = { λ d. record {
+      held = record { next = d.next; calls = d.kept.items };
+      made = d.calls;
+    } };
 
-    ghost invariant = { λ d. (d.next ≤ 2 ^ 40) × All (λ (call : KeptCall). IsShortText call.kept) d.kept.items × (d.calls.fail ≡ [] → d.calls.faults ≡ 0) };
+    ghost invariant = { λ d. (d.next ≤ 2 ^ 40)
+        × All (λ (call : KeptCall). IsShortText call.kept) d.kept.items
+        × (d.calls.fail ≡ [] → d.calls.faults ≡ 0) };
 }
 
 impl MemDesk {
-    ghost use Rattle.pdn_base.specs.Outside.{no_calls};
+    ghost use Rattle.pdn_desk_keeper.specs.Desks.{empty_desk};
 
-    /// Nothing is kept; `next` is the next ticket, and `fail` has the numbers of the calls that are to fail.
+    /// Nothing is kept; `next` is the next ticket, and `fail` has the numbers of the calls that are
+    /// to fail.
     pub fn new(next: u64, fail: Vec<u64>) -> MemDesk
         requires { next ≤ 2 ^ 40 }
-        ensures { result ≡ record { held = record { next = next; calls = [] }; made = no_calls fail.items } }
+        ensures { result ≡ empty_desk next fail.items }
     {
         let kept = Vec::new(*fail.allocator());
         MemDesk {
@@ -93,12 +100,7 @@ fn count_of(calls: &[Call], caller: u32) -> u64
 }
 
 /// A copy of what is kept for the caller's number, if anything.
-fn copy_of(
-    alloc: Global,
-    calls: &[Call],
-    caller: u32,
-    number: u64,
-) -> Result<Option<Kept>, Memory>
+fn copy_of(alloc: Global, calls: &[Call], caller: u32, number: u64) -> Result<Option<Kept>, Memory>
     requires short { All (λ (call : KeptCall). IsShortText call.kept) calls.now }
     ensures size { IfOk result (λ found. IfSome found IsShortText) }
     ensures found { IfOk result (λ found. found ≡ kept_text caller number calls.now) }
@@ -109,32 +111,34 @@ fn copy_of(
     }
 }
 
-/// Appends a call.
-fn append(
-    alloc: Global,
-    calls: &mut Vec<Call>,
-    caller: u32,
-    number: u64,
-    kept: &Kept,
-) -> Result<(), Memory>
-    ensures ok { OnOk result (calls.new.items ≡ calls.old.items ++ kept_call caller number kept.now ∷ []) }
-    ensures memory { OnErr result (calls.new.items ≡ calls.old.items) }
+/// A call with a copy of what is kept of it.
+fn call(alloc: Global, caller: u32, number: u64, kept: &Kept) -> Result<Call, Memory>
+    ensures { IfOk result (λ call. call ≡ kept_call caller number kept.now) }
 {
     let kept = kept.copy(alloc)?;
-    calls.push(
-        Call {
-            caller,
-            number,
-            kept,
-        },
-    )?;
+    Ok(Call {
+        caller,
+        number,
+        kept,
+    })
+}
+
+/// Appends a call.
+fn append(calls: &mut Vec<Call>, call: Call) -> Result<(), Memory>
+    ensures ok { OnOk result (calls.new.items ≡ calls.old.items ++ call ∷ []) }
+    ensures memory { OnErr result (calls.new.items ≡ calls.old.items) }
+{
+    calls.push(call)?;
     Ok(())
 }
 
 impl DeskKeeper for MemDesk {
-    ghost use Rattle.std.specs.Prelude.{◌≡◌, ◌≤◌, ◌^◌, ◌↔◌, Some, None, IfOk, IfSome, OnErr, IsErrOf, IsTrue, Ok, Err, if◌then◌else◌};
-    ghost use Rattle.pdn_base.specs.Outside.{HasCause, called, fails_next};
-    ghost use Rattle.pdn_desk_keeper.specs.Desks.{IsShortText, Ticket, Find, Keep, Count, IsAnswer, Stands, kept_call, kept_text, count_calls};
+    ghost use Rattle.std.specs.Prelude.{◌≡◌, ◌≤◌, ◌^◌, ◌↔◌, Some, None};
+    ghost use Rattle.std.specs.Prelude.{IfOk, IfSome, OnErr, IsErrOf, IsTrue};
+    ghost use Rattle.pdn_base.specs.Outside.{called, fails_next};
+    ghost use Rattle.pdn_desk_keeper.specs.Desks.{Ticket, Find, Keep, Count, IsAnswer, StandsIn};
+    ghost use Rattle.pdn_desk_keeper.specs.Desks.{IsCounted, IsShortText, kept_text};
+    ghost use Rattle.pdn_desk_keeper.specs.Desks.{count_calls, unless_failing};
 
     ghost held = { λ d. Some d.held };
 
@@ -142,11 +146,11 @@ impl DeskKeeper for MemDesk {
 
     fn ticket(&mut self, _alloc: Global) -> Result<u64, KeepErr>
         ensures bound { IfOk result (λ ticket. ticket ≤ 2 ^ 40) }
-        ensures answer { IsAnswer self.old.held (Ticket result) }
-        ensures stands { Stands (Some self.old.held) (Some self.new.held) (Ticket result) }
-        ensures cause { HasCause self.old.made.faults self.new.made.faults (IsErrOf result KeepErr.Failed) }
+        ensures answer { IsAnswer (Some self.old.held) (Ticket result) }
+        ensures stands { StandsIn self.old.held self.new.held (Ticket result) }
+        ensures cause { IsCounted self.old.made.faults self.new.made.faults result }
         ensures counted { self.new.made ≡ called self.old.made }
-        ensures exact { result ≡ (if fails_next self.old.made then Err KeepErr.Failed else Ok self.old.held.next) }
+        ensures exact { result ≡ unless_failing self.old.made self.old.held.next }
         ensures refused { OnErr result (self.new.held ≡ self.old.held) }
     {
         let ticket = self.next;
@@ -161,9 +165,9 @@ impl DeskKeeper for MemDesk {
 
     fn kept(&mut self, alloc: Global, caller: u32, number: u64) -> Result<Option<Kept>, KeepErr>
         ensures size { IfOk result (λ found. IfSome found IsShortText) }
-        ensures answer { IsAnswer self.old.held (Find caller number result) }
-        ensures stands { Stands (Some self.old.held) (Some self.new.held) (Find caller number result) }
-        ensures cause { HasCause self.old.made.faults self.new.made.faults (IsErrOf result KeepErr.Failed) }
+        ensures answer { IsAnswer (Some self.old.held) (Find caller number result) }
+        ensures stands { StandsIn self.old.held self.new.held (Find caller number result) }
+        ensures cause { IsCounted self.old.made.faults self.new.made.faults result }
         ensures counted { self.new.made ≡ called self.old.made }
         ensures failed { IsErrOf result KeepErr.Failed ↔ IsTrue (fails_next self.old.made) }
     {
@@ -173,17 +177,11 @@ impl DeskKeeper for MemDesk {
         Ok(copy_of(alloc, &self.kept, caller, number)?)
     }
 
-    fn keep(
-        &mut self,
-        alloc: Global,
-        caller: u32,
-        number: u64,
-        kept: &Kept,
-    ) -> Result<(), KeepErr>
+    fn keep(&mut self, alloc: Global, caller: u32, number: u64, kept: &Kept) -> Result<(), KeepErr>
         requires free { kept_text caller number self.now.held.calls ≡ None }
         requires size { IsShortText kept.now }
-        ensures stands { Stands (Some self.old.held) (Some self.new.held) (Keep (kept_call caller number kept.now) result) }
-        ensures cause { HasCause self.old.made.faults self.new.made.faults (IsErrOf result KeepErr.Failed) }
+        ensures stands { StandsIn self.old.held self.new.held (Keep caller number kept.now result) }
+        ensures cause { IsCounted self.old.made.faults self.new.made.faults result }
         ensures counted { self.new.made ≡ called self.old.made }
         ensures failed { IsErrOf result KeepErr.Failed ↔ IsTrue (fails_next self.old.made) }
         ensures refused { OnErr result (self.new.held ≡ self.old.held) }
@@ -191,16 +189,17 @@ impl DeskKeeper for MemDesk {
         if self.calls.fails() {
             return Err(KeepErr::Failed);
         }
-        append(alloc, &mut self.kept, caller, number, kept)?;
+        append(&mut self.kept, call(alloc, caller, number, kept)?)?;
         Ok(())
     }
 
     fn calls_of(&mut self, _alloc: Global, caller: u32) -> Result<u64, KeepErr>
-        ensures answer { IsAnswer self.old.held (Count caller result) }
-        ensures stands { Stands (Some self.old.held) (Some self.new.held) (Count caller result) }
-        ensures cause { HasCause self.old.made.faults self.new.made.faults (IsErrOf result KeepErr.Failed) }
+        ensures answer { IsAnswer (Some self.old.held) (Count caller result) }
+        ensures stands { StandsIn self.old.held self.new.held (Count caller result) }
+        ensures cause { IsCounted self.old.made.faults self.new.made.faults result }
         ensures counted { self.new.made ≡ called self.old.made }
-        ensures exact { result ≡ (if fails_next self.old.made then Err KeepErr.Failed else Ok (count_calls caller self.old.held.calls)) }
+        ensures exact { result ≡ unless_failing self.old.made
+            (count_calls caller self.old.held.calls) }
     {
         if self.calls.fails() {
             return Err(KeepErr::Failed);
