@@ -112,7 +112,7 @@ fn copy_of(alloc: Global, calls: &[Call], caller: u32, number: u64) -> Result<Op
 }
 
 /// A call with a copy of what is kept of it.
-fn call(alloc: Global, caller: u32, number: u64, kept: &Kept) -> Result<Call, Memory>
+fn copied_call(alloc: Global, caller: u32, number: u64, kept: &Kept) -> Result<Call, Memory>
     ensures { IfOk result (λ call. call ≡ kept_call caller number kept.now) }
 {
     let kept = kept.copy(alloc)?;
@@ -189,7 +189,7 @@ impl DeskKeeper for MemDesk {
         if self.calls.fails() {
             return Err(KeepErr::Failed);
         }
-        append(&mut self.kept, call(alloc, caller, number, kept)?)?;
+        append(&mut self.kept, copied_call(alloc, caller, number, kept)?)?;
         Ok(())
     }
 
