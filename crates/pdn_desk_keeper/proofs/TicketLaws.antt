@@ -1,13 +1,12 @@
 -- The tickets of a run.
-use Rattle.std.proofs.Common.{◌≡◌, ℕ, ◌+◌, ◌<◌, ◌≤◌, ◌^◌, Bool, true, false, List, [], ◌∷◌, ◌++◌, map, Some, None, Ok, Err, refl, sym, ap, subst, ◌∙◌, arith, inl, inr, ltb-true}
-use Rattle.std.specs.Prelude.{Option, Result, nat_lt, if◌then◌else◌, ◌⊎◌, IfSome, IfOk}
-use Rattle.std.specs.List.{All, AllPairs, concat}
+use Rattle.std.proofs.Common.{◌≡◌, ℕ, ◌+◌, ◌<◌, ◌≤◌, ◌^◌, Bool, true, false, List, [], ◌∷◌, ◌++◌, map, Some, Ok, Err, refl, sym, ap, subst, ◌∙◌, arith, inl, inr, ltb-true}
+use Rattle.std.specs.Prelude.{Option, nat_lt, if◌then◌else◌}
+use Rattle.std.specs.List.{concat}
 use Rattle.std.proofs.lemmas.List.Elements.{All-cons, All-nil}
 use Rattle.std.proofs.lemmas.List.Kept.{AllPairs-cons}
-use Rattle.pdn_keeper.specs.declared.site_keeper.KeepErr.{KeepErr}
 use Rattle.pdn_keeper.specs.declared.site_keeper.KeepErr.TheVariants.{Failed, Memory}
-use Rattle.pdn_desk_keeper.specs.Desks.{DeskHeld, KeptCall, Step, Ticket, Find, Keep, Count, IsAnswer, Stands, after_ticket, with_ticket, with_call, kept_call}
-use Rattle.pdn_desk_keeper.specs.Runs.{IsRun, AreRuns, tickets, Rising, AreRising}
+use Rattle.pdn_desk_keeper.specs.Desks.{DeskHeld, KeptCall, Step, Ticket, Find, Keep, Count, after_ticket, kept_call}
+use Rattle.pdn_desk_keeper.specs.Runs.{IsRun, AreRuns, tickets, AreRising}
 
 -- ---- two runs are one
 
