@@ -1,5 +1,5 @@
 //! A place for each job's result.
-ghost use Rattle.std.specs.Prelude.{◌≡◌, ℕ, ◌<◌, List, length, map, replicate, IfOk, All, IsSome, Some, None};
+ghost use Rattle.std.specs.Prelude.{◌≡◌, ℕ, ◌<◌, List, length, map, replicate, slice_set, IfOk, All, IsSome, Some, None};
 ghost use Rattle.pdn_pool.specs.Results.{placed};
 
 use pdn_base::Memory;
@@ -17,13 +17,20 @@ pub fn empty_places<X: Drop>(alloc: Global, count: usize) -> Result<Vec<Option<X
 }
 
 /// Puts each result at the place of its number.
-pub fn place<X: Drop>(places: &mut [Option<X>], outs: Vec<(u64, X)>)
-    requires { All (λ p. p.0 < length places.old) outs.items }
-    ensures { places.new ≡ placed places.old outs.items }
+pub fn place<X: Drop>(places: &mut Vec<Option<X>>, outs: Vec<(u64, X)>)
+    requires { All (λ p. p.0 < length places.old.items) outs.items }
+    ensures { places.new.items ≡ placed places.old.items outs.items }
 {
     for (number, out) in outs {
-        places[number as usize] = Some(out);
+        put(places, number as usize, out);
     }
+}
+
+fn put<X: Drop>(places: &mut Vec<Option<X>>, number: usize, out: X)
+    requires { number < length places.old.items }
+    ensures { places.new.items ≡ slice_set places.old.items number (Some out) }
+{
+    places[number] = Some(out);
 }
 
 /// The results, of places that are all taken.

@@ -1,4 +1,4 @@
-//! The draws of two seats, and the jobs of a list.
+//! The draws of two seats.
 use pdn_pool::Claims;
 use std::test::Fail;
 
