@@ -5,59 +5,13 @@ ghost use Rattle.pdn_base.specs.declared.site.Site.TheVariants.{A, B};
 ghost use Rattle.pdn_circuit.specs.Gates.{input_count, given_count};
 ghost use Rattle.pdn_gmw.specs.Pairs.{ArePair};
 
+use crate::runs::{SECTION, deal_words, halves, one_and, words};
 use pdn_base::{Memory, Site, Word};
 use pdn_circuit::{Builder, Circuit};
-use pdn_dealer::{ChaChaDeal, Deal, ListDeal, section_len};
+use pdn_dealer::{ChaChaDeal, Deal, ListDeal};
 use pdn_gmw::{FrameErr, Half, Step, UnitView, run_pair};
 use std::alloc::Global;
 use std::test::Fail;
-
-fn words(alloc: Global, numbers: &[u64]) -> Result<Vec<Word>, Memory>
-    ensures { IfOk result (λ words. words.items ≡ numbers.now) }
-{
-    let words = numbers.iter().map(|n| Word::from_u64(*n)).collect(alloc)?;
-    Ok(words)
-}
-
-fn deal_words(alloc: Global, numbers: &[u64]) -> Result<ListDeal, Fail> {
-    let mut entries = Vec::new(alloc);
-    entries.push((0, 0, words(alloc, numbers)?))?;
-    Ok(ListDeal::new(entries))
-}
-
-// Both halves of a circuit without given words, on the section of ticket 0 and unit 0.
-fn halves<D: Deal>(
-    alloc: Global,
-    circuit: &Circuit,
-    deal: &D,
-    a: &[u64],
-    b: &[u64],
-) -> Result<(Half, Half), Fail>
-    requires a { length a.now ≡ input_count A circuit.now.gates }
-    requires b { length b.now ≡ input_count B circuit.now.gates }
-    requires given { given_count circuit.now.gates ≡ 0 }
-    ensures { IfOk result (λ pair. ArePair pair.0 pair.1) }
-{
-    let section = deal.section(alloc, 0, 0, section_len(circuit))?;
-    let (part_a, part_b) = section.split(alloc, circuit)?;
-    let half_a = Half::new(
-        alloc,
-        circuit,
-        Site::A,
-        words(alloc, a)?,
-        Vec::new(alloc),
-        part_a,
-    )?;
-    let half_b = Half::new(
-        alloc,
-        circuit,
-        Site::B,
-        words(alloc, b)?,
-        Vec::new(alloc),
-        part_b,
-    )?;
-    Ok((half_a, half_b))
-}
 
 // What both halves of one And gate put out.
 fn outputs<D: Deal>(alloc: Global, circuit: &Circuit, deal: &D) -> Result<(u64, u64), Fail> {
@@ -76,18 +30,6 @@ fn first(words: &[Word]) -> u64 {
         [] => 0,
     }
 }
-
-// One And gate of a word of A and a word of B.
-fn one_and(alloc: Global) -> Result<Circuit, Fail> {
-    let mut builder = Builder::new(alloc, 1, 10)?;
-    let x = builder.input(Site::A)?;
-    let y = builder.input(Site::B)?;
-    let z = builder.and(x, y)?;
-    Ok(builder.finish(vec![in alloc; z]?, true))
-}
-
-// r of both inputs, then a0, a1, b0, b1, c0, then the mask.
-const SECTION: [u64; 8] = [0x0f, 0x33, 0x55, 0x0f, 0x33, 0xff, 0xaa, 0x01];
 
 fn sends(half: &mut Half, expected: &[u64]) -> bool {
     match half.next() {

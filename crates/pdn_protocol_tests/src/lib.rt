@@ -9,4 +9,6 @@ mod halves;
 #[cfg(test)]
 mod kernels;
 #[cfg(test)]
+mod runs;
+#[cfg(test)]
 mod shifts;

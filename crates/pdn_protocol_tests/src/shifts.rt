@@ -2,18 +2,15 @@
 ghost use Rattle.std.specs.Prelude.{◌≡◌, length, IfOk, IsTrue};
 ghost use Rattle.pdn_base.specs.declared.site.Site.TheVariants.{A, B};
 ghost use Rattle.pdn_circuit.specs.Gates.{input_count, given_count};
-ghost use Rattle.pdn_gmw.specs.Pairs.{ArePair};
 
+use crate::runs::{SECTION, deal_words, halves, one_and, words};
 use pdn_base::{Memory, Site, Word};
-use pdn_circuit::{Builder, Circuit, Inputs};
-use pdn_dealer::{Deal, ListDeal, section_len};
-use pdn_gmw::{Finished, Half, run_pair};
+use pdn_circuit::{Circuit, Inputs};
+use pdn_dealer::section_len;
+use pdn_gmw::{Finished, run_pair};
 use pdn_shift::shift;
 use std::alloc::Global;
 use std::test::Fail;
-
-// r of both inputs, then a0, a1, b0, b1, c0, then the mask.
-const SECTION: [u64; 8] = [0x0f, 0x33, 0x55, 0x0f, 0x33, 0xff, 0xaa, 0x01];
 
 // The words of A and of B in the first world.
 const FIRST: (u64, u64) = (0xf0, 0x3c);
@@ -32,13 +29,6 @@ const CASES: [(Site, (u64, u64), [u64; 8]); 2] = [
     ),
 ];
 
-fn words(alloc: Global, numbers: &[u64]) -> Result<Vec<Word>, Memory>
-    ensures { IfOk result (λ words. words.items ≡ numbers.now) }
-{
-    let words = numbers.iter().map(|n| Word::from_u64(*n)).collect(alloc)?;
-    Ok(words)
-}
-
 fn are(words: &[Word], numbers: &[u64]) -> bool {
     words.len() == numbers.len()
         && words
@@ -56,17 +46,6 @@ fn inputs(alloc: Global, of_both: (u64, u64)) -> Result<Inputs, Memory>
     let b = words(alloc, &[of_both.1])?;
     let given = Vec::new(alloc);
     Ok(Inputs { a, b, given })
-}
-
-// One And gate of a word of A and a word of B.
-fn one_and(alloc: Global) -> Result<Circuit, Fail> {
-    let mut builder = Builder::new(alloc, 1, 10)?;
-    let x = builder.input(Site::A)?;
-    let y = builder.input(Site::B)?;
-    let z = builder.and(x, y)?;
-    let mut outputs = Vec::new(alloc);
-    outputs.push(z)?;
-    Ok(builder.finish(outputs, true))
 }
 
 fn takes_one_each(circuit: &Circuit) -> bool
@@ -98,40 +77,6 @@ fn shifted(
     }
 }
 
-// Both halves of a circuit without given words, on the section of ticket 0 and unit 0.
-fn halves(
-    alloc: Global,
-    circuit: &Circuit,
-    deal: &ListDeal,
-    a: &[u64],
-    b: &[u64],
-) -> Result<(Half, Half), Fail>
-    requires a { length a.now ≡ input_count A circuit.now.gates }
-    requires b { length b.now ≡ input_count B circuit.now.gates }
-    requires given { given_count circuit.now.gates ≡ 0 }
-    ensures { IfOk result (λ pair. ArePair pair.0 pair.1) }
-{
-    let section = deal.section(alloc, 0, 0, section_len(circuit))?;
-    let (part_a, part_b) = section.split(alloc, circuit)?;
-    let half_a = Half::new(
-        alloc,
-        circuit,
-        Site::A,
-        words(alloc, a)?,
-        Vec::new(alloc),
-        part_a,
-    )?;
-    let half_b = Half::new(
-        alloc,
-        circuit,
-        Site::B,
-        words(alloc, b)?,
-        Vec::new(alloc),
-        part_b,
-    )?;
-    Ok((half_a, half_b))
-}
-
 // The r words, the triple, the two words received, the mask and the output.
 fn numbers_of(finished: &Finished) -> Option<[u64; 9]> {
     let view = finished.view();
@@ -160,9 +105,7 @@ fn seen(
     if !takes_one_each(circuit) {
         return Ok(None);
     }
-    let mut entries = Vec::new(alloc);
-    entries.push((0, 0, words(alloc, section)?))?;
-    let deal = ListDeal::new(entries);
+    let deal = deal_words(alloc, section)?;
     let (a, b) = halves(alloc, circuit, &deal, &[of_both.0], &[of_both.1])?;
     let run = run_pair(alloc, a, b)?;
     Ok(match site {
