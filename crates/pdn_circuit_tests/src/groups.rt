@@ -58,8 +58,7 @@ fn answer(
     told(alloc, b, out, words_with(alloc, len, 1, rubbish, rows)?)
 }
 
-/// An operator, its And gates over three rows of a number, what it gives of the rows 9, 4 and 9 in them, and of those of
-/// value 9 alone.
+/// An operator, its And gates over three rows of a number, and what it gives of the rows 9, 4 and 9 in them.
 const WITHIN: &[(Operator, u32, &str)] = &[
     (Operator::Distinct, 100, " 9; 4;"),
     (Operator::Count, 3, " 3;"),
