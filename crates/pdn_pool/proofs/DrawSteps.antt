@@ -110,8 +110,7 @@ pub draws : (slots id : ℕ) (v : Hand) (c : List (ℕ × Unit {0})) → length 
     → Allows (λ s. Draws s.words s.views) slots id (v, c) 0 (λ n. (n + 1) % 2 ^ 64) (λ found w. IsDraw v found w.0 × (w.1 ≡ c))
 draws slots id v c more s d len at fits =
     let p = part_of_total (λ (h : Hand). length h.drawn) s.views id v at in
-    let l = d.lengths in
-    (
+    let l = d.lengths in (
       hand v.weight (v.drawn ++ slice_index s.words 0 ∷ []),
       keeps,
       tt,
@@ -229,8 +228,7 @@ whole_total x (u ∷ us) (suc id) v room at e =
 pub learns : (slots id : ℕ) (v : Hand) (c : List (ℕ × Unit {0})) → v.weight ≡ 65535
     → Allows (λ s. Draws s.words s.views) slots id (v, c) 0 (λ n. n) (λ found w. (w ≡ (v, c)) × ((x : ℕ) → times x v.drawn ≡ once_below x found))
 learns slots id v c all s d len at fits =
-    let views' = slice_set s.views id v in
-    (
+    let views' = slice_set s.views id v in (
       v,
       keeps,
       tt,

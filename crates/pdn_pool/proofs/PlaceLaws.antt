@@ -1,6 +1,6 @@
 -- Results in their places.
-use Rattle.std.proofs.Common.{◌≡◌, ℕ, zero, suc, ◌+◌, ◌<◌, ◌≤◌, List, [], ◌∷◌, ◌++◌, length, map, Option, Some, None, Result, Ok, Err, IfOk, Bool, refl, sym, ap, ◌∙◌, subst, arith, inl, inr, ◌⊎◌, ⊎_elim, All}
-use Rattle.std.specs.Prelude.{slice_index_or, slice_set, IsSome, IsSomeAnd, if◌then◌else◌}
+use Rattle.std.proofs.Common.{◌≡◌, ◌≢◌, ℕ, zero, suc, ◌+◌, ◌<◌, ◌≤◌, List, [], ◌∷◌, ◌++◌, length, map, Option, Some, None, Result, Ok, Err, IfOk, refl, sym, ap, ◌∙◌, subst, arith, inl, inr, ◌⊎◌, ⊎_elim, All}
+use Rattle.std.specs.Prelude.{slice_index_or, slice_set, IsSome, IsSomeAnd, if◌then◌else◌, ◌==◌}
 use Rattle.std.proofs.lemmas.Bool.Decides.{nat_tests, eqb_tells}
 use Rattle.std.proofs.lemmas.List.{get_or-set_same, get_or-set_other, length-set, length-map, get_or-map, map-append, append_assoc}
 use Rattle.std.proofs.lemmas.List.Elements.{All-from_get_or}
@@ -57,6 +57,21 @@ times_self : (n : ℕ) → times n (n ∷ []) ≡ 1
 unfolding times
 times_self n = grind (arith, nat_tests)
 
+-- 1 for a number that is meant, and else 0
+mark : ℕ → ℕ → ℕ
+mark k i = if k == i then 1 else 0
+
+mark_other : (k i : ℕ) → k ≢ i → mark k i ≡ 0
+unfolding mark
+mark_other k i h = grind (arith, nat_tests)
+
+none_and : (n : ℕ) → 0 + n ≡ n
+none_and n = omega arith
+
+times_other : (i k : ℕ) (ns : List ℕ) → k ≢ i → times i (k ∷ ns) ≡ times i ns
+unfolding times mark
+times_other i k ns h = ap (λ (n : ℕ). n + times i ns) (mark_other k i h) ∙ none_and (times i ns)
+
 last_drawn : (xs ys : List ℕ) (last : ℕ) → 1 ≤ times last (xs ++ (ys ++ last ∷ []))
 last_drawn xs ys last =
     let a = times_append last xs (ys ++ last ∷ []) in
@@ -91,7 +106,7 @@ module _ {J X : Type 0} (gives : J → X → Type 0) (jobs : List J) where
   result_kept places p i l g h = ⊎_elim
       (λ same. subst (λ k. HasResult gives jobs (slice_set places p.0 (Some p.1)) k) (sym same.1) (result_there places p l g))
       (λ other. λ job. subst (λ (o : Option X). IsSomeAnd o (λ x. gives (slice_index_or jobs i job) x))
-        (sym (get_or-set_other places p.0 i (Some p.1) None other.1)) (h job))
+      (sym (get_or-set_other places p.0 i (Some p.1) None other.1)) (h job))
       (eqb_tells i p.0)
 
   pub placed_length : (places : List (Option X)) (ps : List (ℕ × X)) → length (placed places ps) ≡ length places
@@ -119,9 +134,9 @@ module _ {J X : Type 0} (gives : J → X → Type 0) (jobs : List J) where
       let l' = length-set places p.0 (Some p.1) ∙ l in
       ⊎_elim
       (λ same. placed_keeps (slice_set places p.0 (Some p.1)) ps i l' (tail_of p ps all)
-        (subst (λ k. HasResult gives jobs (slice_set places p.0 (Some p.1)) k) same.1 (result_there places p l (head_of p ps all))))
+      (subst (λ k. HasResult gives jobs (slice_set places p.0 (Some p.1)) k) same.1 (result_there places p l (head_of p ps all))))
       (λ other. placed_lays (slice_set places p.0 (Some p.1)) ps i l' (tail_of p ps all)
-        (let no = ap (λ (t : Bool). if t then 1 else 0) other.0 in omega arith))
+      (subst (λ (n : ℕ). 1 ≤ n) (times_other i p.0 (map (λ q. q.0) ps) other.1) h))
       (eqb_tells p.0 i)
 
   -- a worker's results are laid
@@ -161,7 +176,7 @@ module _ {J X : Type 0} (gives : J → X → Type 0) (jobs : List J) where
   each_gives places outs e l has = λ i job out h.
       let n : length outs ≡ length places = sym (length-map outs (λ (x : X). Some x)) ∙ ap length e in
       let at : slice_index_or places i None ≡ Some (slice_index_or outs i out) =
-          ap (λ (ps : List (Option X)). slice_index_or ps i None) (sym e) ∙ get_or-map (λ (x : X). Some x) outs i out None (omega arith) in
+      ap (λ (ps : List (Option X)). slice_index_or ps i None) (sym e) ∙ get_or-map (λ (x : X). Some x) outs i out None (omega arith) in
       subst (λ (o : Option X). IsSomeAnd o (λ x. gives (slice_index_or jobs i job) x)) at (has i h job)
 
 -- ---- the gathering: seats are joined, and their results laid
@@ -194,7 +209,7 @@ module _ {J X : Type 0} (gives : J → X → Type 0) (jobs : List J) where
         count = ap length put ∙ placed_length gives jobs places ps ∙ q.count;
         past = λ h. (last, far, subst (λ ds. 1 ≤ times last ds) (sym list) (last_drawn drawn (map (λ p. p.0) ps) last));
         laid = subst (λ os. Laid gives jobs drawn' os) (sym put)
-          (subst (λ ds. Laid gives jobs ds (placed places ps)) (sym list) (laid_more gives jobs places drawn ps last q.count given far q.laid));
+            (subst (λ ds. Laid gives jobs ds (placed places ps)) (sym list) (laid_more gives jobs places drawn ps last q.count given far q.laid));
       }
 
   -- at the end each job has its result

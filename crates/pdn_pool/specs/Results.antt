@@ -1,5 +1,5 @@
 -- Results of jobs.
-use Rattle.std.specs.Prelude.{◌≡◌, ℕ, ◌<◌, List, [], ◌∷◌, length, slice_index_or, slice_set, Option, Some}
+use Rattle.std.specs.Prelude.{ℕ, ◌<◌, List, [], ◌∷◌, length, slice_index_or, slice_set, Option, Some}
 
 -- the number names a job, and the result is one that this job gives
 pub record GivenAt {J X : Type 0} (gives : J → X → Type 0) (jobs : List J) (p : ℕ × X) : Type 0 where

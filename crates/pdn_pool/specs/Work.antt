@@ -1,5 +1,5 @@
 -- What a worker did.
-use Rattle.std.specs.Prelude.{◌≡◌, ℕ, ◌<◌, ◌≤◌, List, [], ◌∷◌, ◌++◌, length, map}
+use Rattle.std.specs.Prelude.{◌≡◌, ℕ, ◌≤◌, [], ◌∷◌, ◌++◌, map}
 use Rattle.pdn_pool.specs.declared.claims.Claims.{Claims}
 use Rattle.pdn_pool.specs.declared.workers.Worked.{Worked}
 use Rattle.pdn_pool.specs.Seats.{IsSeatOf, drawn, weight}

@@ -50,7 +50,11 @@ fn gather<J: Job>(
     let mut places = empty_places(alloc, jobs.len())?;
     let mut joined = Joined::new(first);
     for worked in all {
-        let Worked { seat, outs, last: _ } = worked?;
+        let Worked {
+            seat,
+            outs,
+            last: _,
+        } = worked?;
         joined.join(claims, seat);
         place(&mut places, outs);
     }

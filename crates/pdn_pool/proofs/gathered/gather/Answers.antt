@@ -1,4 +1,4 @@
-use Rattle.std.proofs.Common.{◌≡◌, length, All, IfOk, ◌∙◌, sym, ap, subst, arith, replicate, None}
+use Rattle.std.proofs.Common.{length, All, IfOk, ◌∙◌, ap, arith}
 use Rattle.std.proofs.lemmas.List.{length-replicate}
 use Rattle.std.proofs.lemmas.Result.{IfOk-at_ok}
 use Rattle.pdn_pool.specs.Results.{GivenAt}
@@ -9,14 +9,13 @@ use Rattle.pdn_pool.proofs.gathered.gather.Goals as goal
 pub loop-worked-init : goal.loop-worked-init
 loop-worked-init g c =
     let hand = c.new-joined.ensures.same in
-    let rest = c.into_iter-worked-iterator.ensures.into_iter_gives.0 in
-    (
+    let rest = c.into_iter-worked-iterator.ensures.into_iter_gives.0 in (
       c.new-joined.ensures.own ∙ c.requires.first.0.0,
       gathering_begins g.J.Job.gives c.args.jobs.now _ _ _ _ _
-      (ap length rest)
-      (rw hand c.requires.first.1)
-      (rw hand c.requires.first.0.1)
-      (ap length c.in_ok-places.ensures ∙ length-replicate _ _),
+          (ap length rest)
+          (rw hand c.requires.first.1)
+          (rw hand c.requires.first.0.1)
+          (ap length c.in_ok-places.ensures ∙ length-replicate _ _),
       rw rest c.requires.each,
       rw rest c.requires.gives,
     )
@@ -36,11 +35,10 @@ loop-worked-preserved g c =
     let given = IfOk-at_ok (λ w. All (GivenAt g.J.Job.gives c.args.jobs.now) w.outs.items) c.in_ok-seat.was gives.0 in
     let fewer = ap length c.in-Some.ensures.steps.0 in
     let part = work.part in
-    let more = c.join.ensures.weight in
-    (
+    let more = c.join.ensures.weight in (
       c.join.ensures.own,
       gathering_goes g.J.Job.gives c.args.jobs.now _ _ _ _ _ _ _ _ _ _ _ _ c.loop-worked.invariant.1
-      (omega arith) (omega arith) c.join.ensures.drawn work.drew work.ended given c.place.ensures,
+          (omega arith) (omega arith) c.join.ensures.drawn work.drew work.ended given c.place.ensures,
       works.1,
       gives.1,
     )
