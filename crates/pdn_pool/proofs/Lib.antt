@@ -1,2 +1,3 @@
 mod DrawSteps
 mod PlaceLaws
+mod RowLaws

@@ -1,4 +1,5 @@
 pub mod Draws
+pub mod DrawRows
 pub mod Seats
 pub mod Results
 pub mod Work

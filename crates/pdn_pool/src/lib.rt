@@ -12,3 +12,4 @@ mod workers;
 pub use claims::{Claims, Seat};
 pub use gathered::run_all;
 pub use job::Job;
+pub use rule::the_rule_tells_rows_apart;

@@ -1,6 +1,7 @@
 //! The rule over the shared word and all seats, and the steps that keep it.
 ghost use Rattle.std.specs.Prelude.{◌≡◌, ℕ, ◌+◌, ◌-◌, ◌≤◌, List, [], ◌∷◌, ◌++◌, length};
 ghost use Rattle.pdn_pool.specs.Draws.{Draws, hand, times, once_below};
+ghost use Rattle.pdn_pool.specs.DrawRows.{DrawRows};
 
 use atomic_table::{Join, Play, Split, TableRule};
 use std::collections::LinkedList;
@@ -49,3 +50,8 @@ pub struct Whole;
 impl Play<(), Hand> for Whole {
     ghost then = { λ _ v found w. (w ≡ v) × ((x : ℕ) → times x v.0.drawn ≡ once_below x found) };
 }
+
+/// Rows of draws that the rule allows and rows that it refuses: a number that two seats drew, one that was left out.
+pub fn the_rule_tells_rows_apart()
+    ensures { DrawRows }
+{}
