@@ -52,7 +52,7 @@ impl Half {
     /// A half of a circuit's run that has made no step. `own` are the site's input words, `given` its shares of
     /// the given words, and `part` its part of the section. All that the half will need is reserved here.
     ///
-    /// It works out the circuit's schedule for itself: where both halves are run, `Half::on` does that once.
+    /// It works out the circuit's schedule for itself: `Half::on` takes one that both halves read.
     pub fn new(
         alloc: Global,
         circuit: &Circuit,
@@ -78,14 +78,15 @@ impl Half {
         part: Part,
     ) -> Result<Half, Memory>
         requires { Fits schedule.now (half_words site own.items given.items part) }
-        ensures { IfOk result (λ h. h ≡ begun schedule.now (half_words site own.items given.items part)) }
+        ensures { IfOk result (λ h.
+            h ≡ begun schedule.now (half_words site own.items given.items part)) }
     {
         let Part { r, triples, masks } = part;
         let circuit = schedule.circuit();
         let leaves = schedule.leaves();
         let own_r = r_words(alloc, leaves, site, r.as_slice())?;
         let other_r = r_words(alloc, leaves, other(site), r.as_slice())?;
-        let views = unheard(alloc, triples.as_slice())?;
+        let views = unheard(alloc, triples)?;
         let zero = Word::from_u64(0);
         let outputs = vec![in alloc; zero; circuit.outputs.len()]?;
         let frame = vec![in alloc; zero; 2 * schedule.most_ands()]?;
@@ -275,13 +276,13 @@ fn other(site: Site) -> Site
     }
 }
 
-// The views of the And gates before anything has come in.
-fn unheard(alloc: Global, triples: &[Triple]) -> Result<Vec<GateView>, Memory>
-    ensures { IfOk result (λ views. views.items ≡ map unheard triples.now) }
+// The views of the And gates before anything has come in. The triples' memory is then free.
+fn unheard(alloc: Global, triples: Vec<Triple>) -> Result<Vec<GateView>, Memory>
+    ensures { IfOk result (λ views. views.items ≡ map unheard triples.items) }
 {
     let zero = Word::from_u64(0);
     let mut views = Vec::with_capacity(alloc, triples.len())?;
-    for triple in triples {
+    for triple in triples.as_slice() {
         views.push(GateView {
             a: triple.a,
             b: triple.b,

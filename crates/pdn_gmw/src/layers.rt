@@ -10,7 +10,7 @@ use pdn_circuit::{Circuit, Gate, gate_depths};
 use std::alloc::Global;
 use std::marker::Model;
 
-/// A gate that reads no other: its number, how many Input gates stand before it, and the gate itself.
+/// A gate that reads no other: its number, how many Input gates stand before it, and itself.
 #[derive(Clone, Copy, Debug, PartialEq, Eq)]
 pub struct Leaf {
     pub at: u32,
@@ -114,10 +114,12 @@ fn leaves_of(alloc: Global, circuit: &Circuit) -> Result<Vec<Leaf>, Memory>
     Ok(leaves)
 }
 
-// Takes in gate `at`, before which there are `inputs` Input gates, and gives how many there are with it.
+// Takes in gate `at`, before which there are `inputs` Input gates, and gives how many there are
+// with it.
 fn add_leaf(leaves: &mut Vec<Leaf>, at: u32, inputs: u32, gate: &Gate) -> Result<u32, Memory>
     requires few { inputs < 2 ^ 31 }
-    ensures leaves { OnOk result (leaves.new.items ≡ leaves.old.items ++ leaf_here at inputs gate.now) }
+    ensures leaves { OnOk result
+        (leaves.new.items ≡ leaves.old.items ++ leaf_here at inputs gate.now) }
     ensures inputs { IfOk result (λ count. count ≡ inputs_after inputs gate.now) }
 {
     let leaf = Leaf {

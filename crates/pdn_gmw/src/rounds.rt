@@ -60,7 +60,8 @@ pub fn settle_ands(
     requires heard { length frames.heard.now ≡ 2 * length ands.now }
     ensures long { length shares.new ≡ length shares.old }
     ensures views { views.new ≡ heard_by ands.now frames.entry.heard.now views.old }
-    ensures shares { shares.new ≡ settled_by site views.old ands.now frames.entry.sent.now frames.entry.heard.now shares.old }
+    ensures shares { shares.new
+        ≡ settled_by site views.old ands.now frames.entry.sent.now frames.entry.heard.now shares.old }
 {
     for k in 0..ands.len() {
         let and = ands[k];

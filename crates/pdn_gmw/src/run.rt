@@ -57,8 +57,9 @@ pub fn run_pair(alloc: Global, a: Half, b: Half) -> Result<UnitRun, Memory>
     for _ in 0..half_a.frames() {
         send(&mut half_a, &mut from_a)?;
         send(&mut half_b, &mut from_b)?;
-        receive(&mut half_a, from_b.as_slice());
+        // B receives first: each half then goes on where its words were last in use
         receive(&mut half_b, from_a.as_slice());
+        receive(&mut half_a, from_b.as_slice());
     }
     let _done = half_a.next();
     let _done = half_b.next();

@@ -103,7 +103,8 @@ impl Schedule {
 
     // As many And gates as a depth has, and no fewer than any other.
     pub(crate) fn most_ands(&self) -> usize
-        ensures most { (d : ℕ) → d ≤ frame_count self.now → length (layer_of self.now.gates d).ands ≤ result }
+        ensures most { (d : ℕ) → d ≤ frame_count self.now
+            → length (layer_of self.now.gates d).ands ≤ result }
         ensures few { result < 2 ^ 31 }
     {
         let layers: &Layers = &self.layers;

@@ -14,12 +14,12 @@ loop-preserved c =
     let inv = c.loop.invariant in
     record {
       end = inv.end;
-      a = c.receive.ensures
-          ∙ ap (λ (s : HalfState). after_take s c.as_slice.result.now) (c.in_ok-send.ensures.half ∙ ap (λ (s : HalfState). record s { stage = Sent }) inv.a)
-          ∙ next_a c.args.a c.args.b c.loop.counter c.as_slice.result.now (c.as_slice.ensures.value ∙ c.in_ok-send-2.ensures.frame ∙ ap next_frame inv.b);
-      b = c.receive-in-loop.ensures
-          ∙ ap (λ (s : HalfState). after_take s c.as_slice-in-loop.result.now) (c.in_ok-send-2.ensures.half ∙ ap (λ (s : HalfState). record s { stage = Sent }) inv.b)
-          ∙ next_b c.args.a c.args.b c.loop.counter c.as_slice-in-loop.result.now (c.as_slice-in-loop.ensures.value ∙ c.in_ok-send.ensures.frame ∙ ap next_frame inv.a);
+      a = c.receive-in-loop.ensures
+          ∙ ap (λ (s : HalfState). after_take s c.as_slice-in-loop.result.now) (c.in_ok-send.ensures.half ∙ ap (λ (s : HalfState). record s { stage = Sent }) inv.a)
+          ∙ next_a c.args.a c.args.b c.loop.counter c.as_slice-in-loop.result.now (c.as_slice-in-loop.ensures.value ∙ c.in_ok-send-2.ensures.frame ∙ ap next_frame inv.b);
+      b = c.receive.ensures
+          ∙ ap (λ (s : HalfState). after_take s c.as_slice.result.now) (c.in_ok-send-2.ensures.half ∙ ap (λ (s : HalfState). record s { stage = Sent }) inv.b)
+          ∙ next_b c.args.a c.args.b c.loop.counter c.as_slice.result.now (c.as_slice.ensures.value ∙ c.in_ok-send.ensures.frame ∙ ap next_frame inv.a);
     }
 
 pub returns-clause-shares : goal.returns-clause-shares
@@ -44,10 +44,10 @@ returns-clause-opens c =
 
 pub receive-requires-clause-few : goal.receive-requires-clause-few
 receive-requires-clause-few c =
-    let words = c.as_slice.ensures.value ∙ c.in_ok-send-2.ensures.frame ∙ ap next_frame c.loop.invariant.b in
-    omega (arith, ap length words, frame_few (state_b c.args.a c.args.b c.loop.counter) c.frames-end.ensures.circuit)
+    let words = c.as_slice.ensures.value ∙ c.in_ok-send.ensures.frame ∙ ap next_frame c.loop.invariant.a in
+    omega (arith, ap length words, frame_few (state_a c.args.a c.args.b c.loop.counter) c.frames-end.ensures.circuit)
 
 pub receive-requires-in-loop-clause-few : goal.receive-requires-in-loop-clause-few
 receive-requires-in-loop-clause-few c =
-    let words = c.as_slice-in-loop.ensures.value ∙ c.in_ok-send.ensures.frame ∙ ap next_frame c.loop.invariant.a in
-    omega (arith, ap length words, frame_few (state_a c.args.a c.args.b c.loop.counter) c.frames-end.ensures.circuit)
+    let words = c.as_slice-in-loop.ensures.value ∙ c.in_ok-send-2.ensures.frame ∙ ap next_frame c.loop.invariant.b in
+    omega (arith, ap length words, frame_few (state_b c.args.a c.args.b c.loop.counter) c.frames-end.ensures.circuit)

@@ -36,7 +36,7 @@ invariant_of-result c =
     let part : PartWords = record { r = c.part.inside.r.items; triples = c.part.inside.triples.items; masks = c.part.inside.masks.items } in
     let hw : HeldWords = record { site = c.args.site; own = c.args.own.items; given = c.args.given.items; r = part.r; masks = part.masks } in
     let views : List GateView = c.in_ok-views.views.items in
-    let begun_views : views ≡ map unheard part.triples = c.in_ok-views.ensures ∙ ap (map unheard) c.as_slice-3.ensures.value in
+    let begun_views : views ≡ map unheard part.triples = c.in_ok-views.ensures in
     let half : held hw views ≡ half_words c.args.site c.args.own.items c.args.given.items c.args.part = held_begun c.args.site c.args.own.items c.args.given.items part c.args.part views c.part.view_is begun_views in
     let leaves : List ℕ = map (leaf_at hw net.gates) (range_with_len 0 (length net.gates)) in
     let long : length leaves ≡ length net.gates = length-map-range_with_len (leaf_at hw net.gates) 0 (length net.gates) in
@@ -62,7 +62,7 @@ returns c =
     let net : Net = c.args.schedule.now in
     let part : PartWords = record { r = c.part.inside.r.items; triples = c.part.inside.triples.items; masks = c.part.inside.masks.items } in
     let views : List GateView = c.in_ok-views.views.items in
-    let begun_views : views ≡ map unheard part.triples = c.in_ok-views.ensures ∙ ap (map unheard) c.as_slice-3.ensures.value in
+    let begun_views : views ≡ map unheard part.triples = c.in_ok-views.ensures in
     state_begun c.in_ok-schedule.schedule net _ (half_words c.args.site c.args.own.items c.args.given.items c.args.part) views part.triples c.in_ok-schedule.ensures
     (held_begun c.args.site c.args.own.items c.args.given.items part c.args.part views c.part.view_is begun_views) begun_views
     (ap (λ (p : PartWords). length p.triples) c.part.view_is ∙ c.requires.triples)
