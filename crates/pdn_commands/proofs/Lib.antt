@@ -1,6 +1,5 @@
 pub mod Walks
-pub mod Answers
-pub mod Loads
-pub mod Checks
-pub mod Causes
+pub mod Worlds
+pub mod Gathers
 pub mod Ready
+pub mod Causes

@@ -119,23 +119,25 @@ answer_text query ticket columns rows = head_line query ticket (length rows) ++ 
 
 -- ---- what is asked and said
 
--- the rows of both sites are judged, A's first; what is said are the rows that the query means over their union
-abbrev pub said : SchemaModel → ℕ → Query → PlanModel → List Rows → List Rows → Script → Script
-said s ticket query plan a b next =
-    judging A 0 s.tables a (judging B 0 s.tables b (or_large (Say (answer_text (ticket + 1) ticket plan.columns (answer s (union a b) query)) next) (units_over s plan.root a b)))
+-- both sites' rows are judged, A's first, and then the units over them
+abbrev pub judging_both : SchemaModel → Node → List Rows → List Rows → Script → Script
+judging_both s root a b next = judging A 0 s.tables a (judging B 0 s.tables b (or_large next (units_over s root a b)))
 
--- A's rows are asked for, and then B's
-abbrev pub planned_script : SchemaModel → ℕ → Query → Script → PlanModel → Script
-planned_script s ticket query next plan = asking A plan.root 0 s.tables (λ a. asking B plan.root 0 s.tables (λ b. said s ticket query plan a b next))
+-- A's rows are asked for, and then B's, and judged; what follows are the rows that the query means over their union
+abbrev pub answering : SchemaModel → Query → PlanModel → (Rows → Script) → Script
+answering s query plan next = asking A plan.root 0 s.tables (λ a. asking B plan.root 0 s.tables (λ b. judging_both s plan.root a b (next (answer s (union a b) query))))
 
--- a query is bound first
-abbrev pub query_script : SchemaModel → ℕ → Query → Script → Script
-query_script s ticket query next = binding s query (planned_script s ticket query next)
+-- a query is bound first; what follows is the text of its answer
+abbrev pub query_answer : SchemaModel → ℕ → ℕ → Query → (List ℕ → Script) → Script
+query_answer s number ticket query next = binding s query (λ plan. answering s query plan (λ rows. next (answer_text number ticket plan.columns rows)))
 
--- each query in order, with its ticket
-abbrev pub queries_script : SchemaModel → ℕ → List Query → Script
-queries_script s ticket [] = Finish
-queries_script s ticket (query ∷ queries) = query_script s ticket query (queries_script s (ticket + 1) queries)
+abbrev pub query_script : SchemaModel → ℕ → ℕ → Query → Script → Script
+query_script s number ticket query next = query_answer s number ticket query (λ text. Say text next)
+
+-- each query in order, with its number and its ticket
+abbrev pub queries_script : SchemaModel → ℕ → ℕ → List Query → Script
+queries_script s number ticket [] = Finish
+queries_script s number ticket (query ∷ queries) = query_script s number ticket query (queries_script s (number + 1) (ticket + 1) queries)
 
 -- ---- what an answer is
 
@@ -169,13 +171,13 @@ pub record IsTaken (kept_a kept_b : Option (List BatchHeld)) (s : SchemaModel) (
   pub units : List UnitModel
   pub fits : units_over s plan.root a b ≡ Ok units
 
--- The text is the answer to the query of this ticket: the rows that it means over the union of both sites' tables.
-pub record IsAnswer (kept_a kept_b : Option (List BatchHeld)) (s : SchemaModel) (ticket : ℕ) (query : Query) (text : List ℕ) : Type 0 where
+-- The text is the answer to the query of this number and ticket: the rows that it means over the union of both sites' tables.
+pub record IsAnswer (kept_a kept_b : Option (List BatchHeld)) (s : SchemaModel) (number ticket : ℕ) (query : Query) (text : List ℕ) : Type 0 where
   pub taken : IsTaken kept_a kept_b s query
-  pub printed : text ≡ answer_text (ticket + 1) ticket taken.plan.columns (answer s (union taken.a taken.b) query)
+  pub printed : text ≡ answer_text number ticket taken.plan.columns (answer s (union taken.a taken.b) query)
 
 -- the text is the answers to these queries, one after the other
-abbrev pub AreAnswers : Option (List BatchHeld) → Option (List BatchHeld) → SchemaModel → ℕ → List Query → List ℕ → Type 0
-AreAnswers kept_a kept_b s ticket [] text = text ≡ []
-AreAnswers kept_a kept_b s ticket (query ∷ queries) text = (first : List ℕ) × (more : List ℕ) × (text ≡ first ++ more)
-    × IsAnswer kept_a kept_b s ticket query first × AreAnswers kept_a kept_b s (ticket + 1) queries more
+abbrev pub AreAnswers : Option (List BatchHeld) → Option (List BatchHeld) → SchemaModel → ℕ → ℕ → List Query → List ℕ → Type 0
+AreAnswers kept_a kept_b s number ticket [] text = text ≡ []
+AreAnswers kept_a kept_b s number ticket (query ∷ queries) text = (first : List ℕ) × (more : List ℕ) × (text ≡ first ++ more)
+    × IsAnswer kept_a kept_b s number ticket query first × AreAnswers kept_a kept_b s (number + 1) (ticket + 1) queries more

@@ -1,9 +1,9 @@
 pub mod Questions
+pub mod World
 pub mod Script
+pub mod Walk
 pub mod Answering
+pub mod Gathering
 pub mod Checking
 pub mod Commands
-pub mod Walk
-pub mod Stops
-pub mod Gathering
 pub mod Causes

@@ -82,11 +82,6 @@ pub record Told : Type 0 where
 abbrev pub told_by : Option (List ℕ → Option (List ℕ)) → Option (List BatchHeld) → Option (List BatchHeld) → Told
 told_by files a b = record { files = files; a = a; b = b }
 
--- what a site and the other one hold
-abbrev pub told_at : Site → Option (List ℕ → Option (List ℕ)) → Option (List BatchHeld) → Option (List BatchHeld) → Told
-told_at A files kept other = told_by files kept other
-told_at B files kept other = told_by files other kept
-
 abbrev pub kept_at : Told → Site → Option (List BatchHeld)
 kept_at told A = told.a
 kept_at told B = told.b
@@ -148,6 +143,11 @@ Gives told (RowsIn t bytes) rows = AreRowsIn t bytes rows
 Gives told (Valid t rows) wrong = IsWrong t rows wrong
 
 -- ---- what the objects hold afterwards
+
+-- only what this site holds may have changed
+abbrev pub OnlyAt : Site → Told → Told → Type 0
+OnlyAt A old new = (new.files ≡ old.files) × (new.b ≡ old.b)
+OnlyAt B old new = (new.files ≡ old.files) × (new.a ≡ old.a)
 
 abbrev pub with_new : Told → Site → BatchHeld → Told
 with_new told site batch = with_kept told site (with_batch batch (kept_at told site))

@@ -1,5 +1,5 @@
 //! The answer to a query: both sites' rows are asked for, judged, and answered over their union.
-ghost use Rattle.std.specs.Prelude.{◌≡◌, ◌≤◌, ◌<◌, ◌-◌, ◌^◌, [], None, Ok, length, true, IfOk, IfErr, MatchResult};
+ghost use Rattle.std.specs.Prelude.{◌≡◌, ◌<◌, ◌-◌, ◌^◌, ℕ, List, None, Ok, length, true, IfOk, MatchResult};
 ghost use Rattle.std.specs.List.{All};
 ghost use Rattle.std.specs.String.{string_bytes};
 ghost use Rattle.pdn_base.specs.Operators.{Rows as RowsModel};
@@ -10,76 +10,82 @@ ghost use Rattle.pdn_plan.specs.Binding.{refusal};
 ghost use Rattle.pdn_plan.specs.Planning.{root};
 ghost use Rattle.pdn_tree.specs.Shapes.{shape};
 ghost use Rattle.pdn_broker.specs.Prepared.{IsPrepared, IsOf};
-ghost use Rattle.pdn_commands.specs.Answering.{IsAnswer, wrong_column};
+ghost use Rattle.pdn_commands.specs.Answering.{query_answer, wrong_column};
 ghost use Rattle.pdn_commands.specs.Gathering.{NotReady, IsMeant};
 ghost use Rattle.pdn_commands.specs.Questions.{IsBound};
-ghost use Rattle.pdn_commands.specs.Stops.{StopsQuery, IsRefusal};
-ghost use Rattle.pdn_commands.specs.Walk.{RoseIn, counts};
+ghost use Rattle.pdn_commands.specs.Script.{Script};
+ghost use Rattle.pdn_commands.specs.Walk.{Came};
+ghost use Rattle.pdn_script.specs.Stops.{IsRefusal};
 
 use crate::answer_text::answer_text;
 use crate::bound::bound;
 use crate::inputs::column_name;
 use crate::tables::tables_at;
+use crate::world::Outside;
 use pdn_base::{Memory, Rows, RowsErr, Site, Status, Tables};
 use pdn_broker::{PrepareErr, Prepared, answer, prepare};
 use pdn_dealer::Deal;
-use pdn_keeper::SiteKeeper;
 use pdn_plan::{Plan, plan_means_answer, valid_unions_fit};
 use pdn_schema::{Schema, Table};
 use pdn_script::{Stop, refused, refused_at};
 use pdn_sql::Query;
 use std::alloc::Global;
 
-/// The text of the answer to the query of this ticket, over the rows of both sites.
-pub fn query_answer<K: SiteKeeper, D: Deal>(
+/// A query of a file: its number there, and the ticket of its sections of the tape.
+#[derive(Clone, Copy)]
+pub struct Numbered<'a> {
+    pub number: u64,
+    pub ticket: u64,
+    pub query: &'a Query,
+}
+
+/// The text of the answer to a query, over the rows of both sites.
+pub fn query_answer<W: Outside, D: Deal>(
     alloc: Global,
     schema: &Schema,
-    ticket: u64,
-    query: &Query,
-    site_a: &mut K,
-    site_b: &mut K,
+    asked: Numbered<'_>,
+    world: &mut W,
     deal: &D,
 ) -> Result<Vec<u8>, Stop>
-    requires ticket { ticket < 2 ^ 64 - 1 }
-    requires written { IsWritten query.now }
-    ensures answer { IfOk result (λ text. IsAnswer (K.batches site_a.old) (K.batches site_b.old) schema.now ticket query.now text.items) }
-    ensures stops { IfErr result (λ stop. StopsQuery (RoseIn (counts 0 (K.faults site_a.old) (K.faults site_b.old) 0) (counts 0 (K.faults site_a.new) (K.faults site_b.new) 0))
-        (K.batches site_a.old) (K.batches site_b.old) schema.now ticket query.now [] stop) }
-    ensures same_a { K.batches site_a.new ≡ K.batches site_a.old }
-    ensures same_b { K.batches site_b.new ≡ K.batches site_b.old }
-    ensures later_a { K.faults site_a.old ≤ K.faults site_a.new }
-    ensures later_b { K.faults site_b.old ≤ K.faults site_b.new }
+    requires written { IsWritten asked.query.now }
+    ensures came { (next : List ℕ → Script) →
+        Came (W.state world.old) (W.state world.new)
+            (query_answer schema.now asked.entry.number asked.entry.ticket
+                asked.entry.query.now next)
+            (λ text. next text.items) result }
+    ensures same { (W.state world.new).told ≡ (W.state world.old).told }
 {
-    let plan = bound(alloc, schema, query)?;
-    let a = tables_at(alloc, Site::A, schema, &plan, site_a)?;
-    let b = tables_at(alloc, Site::B, schema, &plan, site_b)?;
-    let rows = meant_rows(alloc, schema, query, ticket, &plan, a, b, deal)?;
-    Ok(answer_text(alloc, ticket + 1, ticket, &plan, &rows)?)
+    let plan = bound(alloc, schema, asked.query)?;
+    let a = tables_at(alloc, Site::A, schema, &plan, world)?;
+    let b = tables_at(alloc, Site::B, schema, &plan, world)?;
+    let rows = meant_rows(alloc, schema, asked, &plan, a, b, deal)?;
+    Ok(answer_text(alloc, asked.number, asked.ticket, &plan, &rows)?)
 }
 
 // The rows that a query means over the union of both sites' tables, or the refusal.
 fn meant_rows<D: Deal>(
     alloc: Global,
     schema: &Schema,
-    query: &Query,
-    ticket: u64,
+    asked: Numbered<'_>,
     plan: &Plan,
     a: Tables,
     b: Tables,
     deal: &D,
 ) -> Result<Rows, Stop>
-    requires written { IsWritten query.now }
-    requires binds { IsBound schema.now query.now (Ok plan.now) }
+    requires written { IsWritten asked.query.now }
+    requires binds { IsBound schema.now asked.query.now (Ok plan.now) }
     requires sound { (shape schema.now plan.now.root).sound ≡ true }
     requires count_a { length a ≡ length schema.now.tables }
     requires count_b { length b ≡ length schema.now.tables }
     requires few_a { All (λ (rows : RowsModel). length rows < 2 ^ 32 - 1) a }
     requires few_b { All (λ (rows : RowsModel). length rows < 2 ^ 32 - 1) b }
-    ensures { MatchResult result (λ rows. IsMeant schema.now query.now plan.now.root a b rows) (NotReady schema.now plan.now.root a b) }
+    ensures { MatchResult result
+        (λ rows. IsMeant schema.now asked.entry.query.now plan.now.root a b rows)
+        (NotReady schema.now plan.now.root a b) }
 {
     let prepared = ready(alloc, schema, plan, a, b)?;
     is_prepared(&prepared);
-    let rows = answered_rows(alloc, schema, query, ticket, prepared, deal)?;
+    let rows = answered_rows(alloc, schema, asked.query, asked.ticket, prepared, deal)?;
     Ok(rows)
 }
 
@@ -129,7 +135,9 @@ fn ready(
     requires count_b { length b ≡ length schema.now.tables }
     requires few_a { All (λ (rows : RowsModel). length rows < 2 ^ 32 - 1) a }
     requires few_b { All (λ (rows : RowsModel). length rows < 2 ^ 32 - 1) b }
-    ensures { MatchResult result (λ prepared. IsOf schema.now plan.now.root a b prepared) (NotReady schema.now plan.now.root a b) }
+    ensures { MatchResult result
+        (λ prepared. IsOf schema.now plan.now.root a b prepared)
+        (NotReady schema.now plan.now.root a b) }
 {
     match prepare(alloc, schema, plan, a, b) {
         Ok(prepared) => Ok(prepared),

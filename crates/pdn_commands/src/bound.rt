@@ -1,9 +1,12 @@
 //! The plan of a query, or the refusal.
-ghost use Rattle.std.specs.Prelude.{◌≡◌, Ok, true, IfOk, MatchResult};
+ghost use Rattle.std.specs.Prelude.{◌≡◌, Ok, true, IfOk};
 ghost use Rattle.pdn_plan.specs.Answer.{IsWritten};
 ghost use Rattle.pdn_tree.specs.Shapes.{shape};
 ghost use Rattle.pdn_commands.specs.Questions.{IsBound};
-ghost use Rattle.pdn_commands.specs.Stops.{IsNoPlan};
+ghost use Rattle.pdn_tree.specs.Plans.{PlanModel};
+ghost use Rattle.pdn_commands.specs.Script.{Script, binding};
+ghost use Rattle.pdn_commands.specs.Walk.{Came};
+ghost use Rattle.pdn_commands.specs.World.{WorldModel};
 
 use pdn_base::Status;
 use pdn_plan::{Plan, PlanErr, bind};
@@ -15,7 +18,9 @@ use std::alloc::Global;
 /// The plan of a query, or the refusal: the first rule of binding that it breaks, else the first column of its answer that
 /// isn't public.
 pub fn bound(alloc: Global, schema: &Schema, query: &Query) -> Result<Plan, Stop>
-    ensures is { MatchResult result (λ plan. IsBound schema.now query.now (Ok plan)) (IsNoPlan schema.now query.now) }
+    ensures came { (w : WorldModel) (next : PlanModel → Script) →
+        Came w w (binding schema.now query.now next) (λ plan. next plan) result }
+    ensures binds { IfOk result (λ plan. IsBound schema.now query.now (Ok plan)) }
     ensures sound { IsWritten query.now → IfOk result (λ plan. (shape schema.now plan.root).sound ≡ true) }
 {
     match bind(alloc, schema, query) {

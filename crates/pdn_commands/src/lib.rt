@@ -12,5 +12,7 @@ mod run;
 mod tables;
 mod top;
 mod who;
+mod world;
 
 pub use top::pdn;
+pub use world::{Batch, Outside, World};

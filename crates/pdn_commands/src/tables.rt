@@ -1,80 +1,85 @@
 //! The rows that a site keeps of the tables that a plan scans.
-ghost use Rattle.std.specs.Prelude.{◌≡◌, ◌≤◌, ◌<◌, ◌-◌, ◌^◌, length, IfOk, IfErr};
+ghost use Rattle.std.specs.Prelude.{◌≡◌, ◌<◌, ◌-◌, ◌^◌, List, length, IfOk};
 ghost use Rattle.std.specs.List.{All};
 ghost use Rattle.pdn_base.specs.Bounds.{IsShort};
 ghost use Rattle.pdn_base.specs.Operators.{Rows as RowsModel};
-ghost use Rattle.pdn_base.specs.Outside.{Rose};
 ghost use Rattle.pdn_schema.specs.Models.{table_of};
-ghost use Rattle.pdn_commands.specs.Answering.{scans, KeepsIf, KeepsAll};
-ghost use Rattle.pdn_commands.specs.Gathering.{FailsIf, NoTables};
-ghost use Rattle.pdn_commands.specs.Questions.{Keeps, who_of};
-ghost use Rattle.pdn_commands.specs.Stops.{FailedAt};
+ghost use Rattle.pdn_commands.specs.Answering.{scans, asking, asking_if};
+ghost use Rattle.pdn_commands.specs.Questions.{Kept};
+ghost use Rattle.pdn_commands.specs.Script.{Script, Ask};
+ghost use Rattle.pdn_commands.specs.Walk.{Came};
 
 use crate::who::who_of;
-use pdn_base::{Rows, Site, Status, Tables, Who};
-use pdn_keeper::{KeepErr, SiteKeeper};
+use crate::world::Outside;
+use pdn_base::{Rows, Site, Status, Tables};
+use pdn_keeper::KeepErr;
 use pdn_plan::{Node, Plan};
 use pdn_schema::Schema;
 use pdn_script::{Stop, refused};
 use std::alloc::Global;
 
 /// For each table of the schema, in order, the rows that a site keeps of it where the plan scans it, and else none.
-pub fn tables_at<K: SiteKeeper>(
+pub fn tables_at<W: Outside>(
     alloc: Global,
     site: Site,
     schema: &Schema,
     plan: &Plan,
-    keeper: &mut K,
+    world: &mut W,
 ) -> Result<Tables, Stop>
-    ensures kept { IfOk result (λ tables. KeepsAll (K.batches keeper.old) plan.now.root 0 schema.now.tables tables) }
-    ensures short { IfOk result (λ tables. All (λ (rows : RowsModel). length rows < 2 ^ 32 - 1) tables) }
-    ensures failed { IfErr result (NoTables (Rose (K.faults keeper.old) (K.faults keeper.new)) (K.batches keeper.old) site plan.now.root 0 schema.now.tables) }
-    ensures same { K.batches keeper.new ≡ K.batches keeper.old }
-    ensures later { K.faults keeper.old ≤ K.faults keeper.new }
+    ensures came { (next : List RowsModel → Script) →
+        Came (W.state world.old) (W.state world.new)
+            (asking site plan.now.root 0 schema.now.tables next) (λ tables. next tables) result }
+    ensures count { IfOk result (λ tables. length tables ≡ length schema.now.tables) }
+    ensures short { IfOk result
+        (λ tables. All (λ (rows : RowsModel). length rows < 2 ^ 32 - 1) tables) }
+    ensures same { (W.state world.new).told ≡ (W.state world.old).told }
 {
-    scanned(alloc, site, schema, &plan.root, keeper)
+    scanned(alloc, site, schema, &plan.root, world)
 }
 
 // The same, where a tree scans the table.
-fn scanned<K: SiteKeeper>(
+fn scanned<W: Outside>(
     alloc: Global,
     site: Site,
     schema: &Schema,
     root: &Node,
-    keeper: &mut K,
+    world: &mut W,
 ) -> Result<Tables, Stop>
-    ensures kept { IfOk result (λ tables. KeepsAll (K.batches keeper.old) root.now 0 schema.now.tables tables) }
-    ensures short { IfOk result (λ tables. All (λ (rows : RowsModel). length rows < 2 ^ 32 - 1) tables) }
-    ensures failed { IfErr result (NoTables (Rose (K.faults keeper.old) (K.faults keeper.new)) (K.batches keeper.old) site root.now 0 schema.now.tables) }
-    ensures same { K.batches keeper.new ≡ K.batches keeper.old }
-    ensures later { K.faults keeper.old ≤ K.faults keeper.new }
+    ensures came { (next : List RowsModel → Script) →
+        Came (W.state world.old) (W.state world.new)
+            (asking site root.now 0 schema.now.tables next) (λ tables. next tables) result }
+    ensures count { IfOk result (λ tables. length tables ≡ length schema.now.tables) }
+    ensures short { IfOk result
+        (λ tables. All (λ (rows : RowsModel). length rows < 2 ^ 32 - 1) tables) }
+    ensures same { (W.state world.new).told ≡ (W.state world.old).told }
 {
     let mut lists = Vec::new(alloc);
     for at in 0..schema.tables.len() {
-        let rows = rows_if(alloc, site, schema, root, at as u32, keeper)?;
+        let rows = rows_if(alloc, site, schema, root, at as u32, world)?;
         lists.push(rows)?;
     }
     Ok(Tables { lists })
 }
 
 // A site's rows of a table where the tree scans it, and else none.
-fn rows_if<K: SiteKeeper>(
+fn rows_if<W: Outside>(
     alloc: Global,
     site: Site,
     schema: &Schema,
     root: &Node,
     table: u32,
-    keeper: &mut K,
+    world: &mut W,
 ) -> Result<Rows, Stop>
     requires { table < length schema.now.tables }
-    ensures kept { IfOk result (λ rows. KeepsIf (scans table root.now) (K.batches keeper.old) (table_of schema.now table).name rows) }
+    ensures came { (next : RowsModel → Script) →
+        Came (W.state world.old) (W.state world.new)
+            (asking_if (scans table root.now) site (table_of schema.now table) next)
+            (λ rows. next rows) result }
     ensures short { IfOk result (λ rows. IsShort rows) }
-    ensures failed { IfErr result (FailsIf (scans table root.now) (Rose (K.faults keeper.old) (K.faults keeper.new)) (who_of site)) }
-    ensures same { K.batches keeper.new ≡ K.batches keeper.old }
-    ensures later { K.faults keeper.old ≤ K.faults keeper.new }
+    ensures same { (W.state world.new).told ≡ (W.state world.old).told }
 {
     if scans(root, table) {
-        return rows_at(alloc, who_of(site), schema, table, keeper);
+        return rows_at(alloc, site, schema, table, world);
     }
     Ok(Rows {
         rows: Vec::new(alloc),
@@ -82,23 +87,23 @@ fn rows_if<K: SiteKeeper>(
 }
 
 // A site's rows of a table, or the refusal that names the site.
-fn rows_at<K: SiteKeeper>(
+fn rows_at<W: Outside>(
     alloc: Global,
-    who: Who,
+    site: Site,
     schema: &Schema,
     table: u32,
-    keeper: &mut K,
+    world: &mut W,
 ) -> Result<Rows, Stop>
     requires { table < length schema.now.tables }
-    ensures kept { IfOk result (λ rows. Keeps (K.batches keeper.old) (table_of schema.now table).name rows) }
+    ensures came { (next : RowsModel → Script) →
+        Came (W.state world.old) (W.state world.new)
+            (Ask (Kept site (table_of schema.now table).name) next) (λ rows. next rows) result }
     ensures short { IfOk result (λ rows. IsShort rows) }
-    ensures failed { IfErr result (FailedAt (Rose (K.faults keeper.old) (K.faults keeper.new)) who) }
-    ensures same { K.batches keeper.new ≡ K.batches keeper.old }
-    ensures later { K.faults keeper.old ≤ K.faults keeper.new }
+    ensures same { (W.state world.new).told ≡ (W.state world.old).told }
 {
-    match keeper.rows(alloc, schema, table) {
+    match world.rows(alloc, site, schema, table) {
         Ok(rows) => Ok(rows),
-        Err(KeepErr::Failed) => Err(refused(alloc, Status::Unavailable { who })),
+        Err(KeepErr::Failed) => Err(refused(alloc, Status::Unavailable { who: who_of(site) })),
         Err(KeepErr::Memory) => Err(Stop::Memory),
     }
 }
