@@ -130,7 +130,7 @@ module _ (rose : Who → Type 0) (told : Told) (words : List (List ℕ)) where
       AllByRecursion (IsTaken told.a told.b all.run.s) before → Caused (queries_script all.run.s number ticket queries)
   queries_caused all number ticket before [] e taken = tt
   queries_caused all number ticket before (query ∷ queries) e taken = let reached : IsReached told all.run.s all.queries query = record { before = before; later = queries; stands = e; taken = taken } in
-      bound_caused all query reached _ (λ plan binds. planned_caused all query _ reached plan binds
+      bound_caused all query reached _ (λ plan binds. planned_caused all query (λ rows. Say (answer_text number ticket plan.columns rows) (queries_script all.run.s (number + 1) (ticket + 1) queries)) reached plan binds
       (λ is rows. queries_caused all (number + 1) (ticket + 1) (before ++ query ∷ []) queries (e ∙ sym (append_assoc before (query ∷ []) queries)) (all_more (IsTaken told.a told.b all.run.s) before query taken is)))
 
   answered_caused : (table : AskedTable told words) (rows : List (List Value)) → AreRowsIn (table_of table.load.s table.at) table.load.csv (Ok rows) → (answer : Answer) →

@@ -6,7 +6,10 @@ use Rattle.pdn_commands.proofs.Walks.{leads_on, leads_along, begun, halted}
 use Rattle.pdn_commands.proofs.check.+reports.Goals as goal
 
 pub returns-in_default : goal.returns-in_default
-returns-in_default t c = let none : c.args.queries.now ≡ [] = nil_from_length c.args.queries.now (search rules) in λ w next. rw (none) (begun w (next []))
+returns-in_default t c =
+    let none : c.args.queries.now ≡ [] = nil_from_length c.args.queries.now (search rules) in
+    let empty : c.new.result.items ≡ [] = search rules in
+    λ w next. rw (none, empty) (begun w (next []))
 
 pub returns-in_err-text : goal.returns-in_err-text
 returns-in_err-text t c =

@@ -1,10 +1,26 @@
 use Rattle.std.proofs.Common.{[], None, Some, length, refl}
+use Rattle.std.proofs.lemmas.Result.{err_from_is_err_and}
 use Rattle.pdn_base.specs.declared.status.Status.TheVariants as status
 use Rattle.pdn_schema.specs.Models.{table_of}
 use Rattle.pdn_commands.specs.Questions.{who_of}
 use Rattle.pdn_commands.specs.Script.{answered, handing, column_name}
-use Rattle.pdn_commands.proofs.Walks.{leads_along, replied, faulted, spent, refused}
+use Rattle.pdn_commands.proofs.Walks.{leads_along, replied, faulted, spent, halted, refused}
 use Rattle.pdn_commands.proofs.load.hand_over.Goals as goal
+
+pub returns-in_err-new-clause-came : goal.returns-in_err-new-clause-came
+returns-in_err-new-clause-came g c =
+    let p = err_from_is_err_and c.from_residual.result c.from_residual.ensures.1 in
+    rw (p.1, p.2) (λ next. halted _ (handing c.args.site (table_of c.args.schema.now c.args.batch.table) c.args.batch.number c.args.batch.rows.now next) _ refl)
+
+pub returns-in_err-again-clause-came : goal.returns-in_err-again-clause-came
+returns-in_err-again-clause-came g c =
+    let p = err_from_is_err_and c.from_residual-in_err-again.result c.from_residual-in_err-again.ensures.1 in
+    rw (p.1, p.2) (λ next. halted _ (handing c.args.site (table_of c.args.schema.now c.args.batch.table) c.args.batch.number c.args.batch.rows.now next) _ refl)
+
+pub returns-in_err-line-clause-came : goal.returns-in_err-line-clause-came
+returns-in_err-line-clause-came g c =
+    let p = err_from_is_err_and c.from_residual-in_err-line.result c.from_residual-in_err-line.ensures.1 in
+    rw (p.1, p.2) (λ next. halted _ (handing c.args.site (table_of c.args.schema.now c.args.batch.table) c.args.batch.number c.args.batch.rows.now next) _ refl)
 
 pub returns-in-Ok-New-clause-came : goal.returns-in-Ok-New-clause-came
 returns-in-Ok-New-clause-came g c = λ next. rw (c.in_ok-new.ensures, c.table-named.ensures.is) (replied (answered (table_of c.args.schema.now c.args.batch.table) c.args.batch.number (length c.args.batch.rows.now) next) (rw (c.in-Ok-New.field-0-is) at c.in-Ok-New.ensures.added))

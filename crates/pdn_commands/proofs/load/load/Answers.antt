@@ -1,7 +1,8 @@
 use Rattle.std.proofs.Common.{◌≡◌, [], None, Some, rules, refl}
 use Rattle.std.proofs.lemmas.Result.{err_from_is_err_and}
 use Rattle.pdn_base.specs.declared.status.Status.TheVariants as status
-use Rattle.pdn_commands.specs.Script.{table_number}
+use Rattle.pdn_schema.specs.Models.{table_of}
+use Rattle.pdn_commands.specs.Script.{Say, Finish, handing, table_number}
 use Rattle.pdn_commands.proofs.Walks.{leads_along, came_end, refused}
 use Rattle.pdn_commands.proofs.load.load.Goals as goal
 
@@ -27,10 +28,12 @@ returns-in_err-text-clause-goes g c =
     let p = err_from_is_err_and c.from_residual-in_err-text.result c.from_residual-in_err-text.ensures.1 in
     let some : table_number c.args.load.table.now c.in_ok-inputs.inputs.schema ≡ Some c.in-Some.table = search rules in
     let rows = rw (c.deref.ensures.value) at c.in_ok-rows.ensures in
-    rw (p.1, p.2) (leads_along (c.in_ok-inputs.ensures.came _) (rw (some) (leads_along (rows _ _) (c.in_err-text.ensures.came _))))
+    rw (p.1, p.2) (leads_along (c.in_ok-inputs.ensures.came _) (rw (some) (leads_along (rows _ (λ given. handing c.args.site (table_of c.in_ok-inputs.inputs.schema c.in-Some.table) c.args.load.number given (λ text. Say text Finish)))
+    (c.in_err-text.ensures.came (λ text. Say text Finish)))))
 
 pub returns-clause-goes : goal.returns-clause-goes
 returns-clause-goes g c =
     let some : table_number c.args.load.table.now c.in_ok-inputs.inputs.schema ≡ Some c.in-Some.table = search rules in
     let rows = rw (c.deref.ensures.value) at c.in_ok-rows.ensures in
-    leads_along (c.in_ok-inputs.ensures.came _) (rw (some) (leads_along (rows _ _) (leads_along (c.in_ok-text.ensures.came _) (came_end _ c.say.result (c.say.ensures.came _) (search rules)))))
+    leads_along (c.in_ok-inputs.ensures.came _) (rw (some) (leads_along (rows _ (λ given. handing c.args.site (table_of c.in_ok-inputs.inputs.schema c.in-Some.table) c.args.load.number given (λ text. Say text Finish)))
+    (leads_along (c.in_ok-text.ensures.came (λ text. Say text Finish)) (came_end _ c.say.result (c.say.ensures.came Finish) (search rules)))))

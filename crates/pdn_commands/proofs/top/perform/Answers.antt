@@ -9,7 +9,9 @@ pub returns-clause-answers : goal.returns-clause-answers
 returns-clause-answers g c = answered _ _ _ (script (map string_bytes c.args.words.now)) _ _ c.follow-came.ensures.goes c.conclude.ensures.told c.conclude.ensures.later c.conclude.ensures.closes
 
 pub returns-clause-spared : goal.returns-clause-spared
-returns-clause-spared g c = λ e. c.conclude.ensures.told ∙ c.follow-came.ensures.spared (spent_end _ _ _ (map string_bytes c.args.words.now) _ _ c.follow-came.ensures.goes c.conclude.ensures.closes e)
+returns-clause-spared g c =
+    let short = spent_end (g.W.Outside.state c.args.world.now) (g.W.Outside.state c.follow-came.new.world) (g.W.Outside.state c.conclude.new.self) (map string_bytes c.args.words.now) in
+    λ e. c.conclude.ensures.told ∙ c.follow-came.ensures.spared (short _ _ c.follow-came.ensures.goes c.conclude.ensures.closes e)
 
 pub returns-clause-later : goal.returns-clause-later
 returns-clause-later g c = not_fallen _ _ _ c.follow-came.ensures.goes.later c.conclude.ensures.later
