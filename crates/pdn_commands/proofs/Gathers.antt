@@ -3,12 +3,11 @@ use Rattle.std.proofs.Common.{◌≡◌, ℕ, suc, zero, ◌+◌, ◌≤◌, ◌
 use Rattle.std.proofs.lemmas.List.{drop_more, drop_all}
 use Rattle.std.specs.Prelude.{Bool, true, false}
 use Rattle.pdn_base.specs.Operators.{Rows}
-use Rattle.pdn_base.specs.declared.rows_err.RowsErr.{RowsErr}
 use Rattle.pdn_base.specs.declared.site.Site.{Site}
 use Rattle.pdn_base.specs.declared.site.Site.TheVariants.{A, B}
 use Rattle.pdn_base.specs.declared.status.Status.TheVariants as status
 use Rattle.pdn_schema.specs.Models.{SchemaModel, TableModel, no_table}
-use Rattle.pdn_schema.specs.Rows.{IsValid, IsRefused, AreValid, union}
+use Rattle.pdn_schema.specs.Rows.{IsValid, AreValid, union}
 use Rattle.pdn_sql.specs.declared.query.Query.{Query}
 use Rattle.pdn_plan.specs.Answer.{answer}
 use Rattle.pdn_tree.specs.Plans.{PlanModel}
@@ -19,7 +18,7 @@ use Rattle.pdn_site.specs.Compiling.{Compiled}
 use Rattle.pdn_script.specs.Stops.{IsRefusal, stop_of}
 use Rattle.pdn_script.specs.declared.stop.Stop.{Stop}
 use Rattle.pdn_commands.specs.Answering.{scans, asking_if, asking, wrong_column, or_wrong, judging, units_over, or_large, judging_both, answer_text, query_script, queries_script, AllValid}
-use Rattle.pdn_commands.specs.Gathering.{WrongTable, LargeUnit, NotReady, IsMeant}
+use Rattle.pdn_commands.specs.Gathering.{WrongRows, WrongTable, LargeUnit, NotReady, IsMeant}
 use Rattle.pdn_commands.specs.Questions.{Valid}
 use Rattle.pdn_commands.specs.Script.{Script}
 use Rattle.pdn_commands.specs.Walk.{End, Finished, NoMemory, Along, Leads}
@@ -86,22 +85,22 @@ module _ (w : WorldModel) where
   judged site at (t ∷ ts) (rows ∷ tables) next v = leads_on (known w (Valid t rows) (or_wrong site at t (judging site (at + 1) ts tables next)) None refl v.0) (judged site (at + 1) ts tables next v.1)
 
   -- the rows of the table k places after the first are refused
-  wrong_after : (site : Site) (at : ℕ) (ts : List TableModel) (tables : List Rows) (next : Script) (k place : ℕ) (wrong : RowsErr) (stop : Stop) → place ≡ at + k → length tables ≡ length ts → k < length ts →
-      ((t : ℕ) → t < k → IsValid (get_or ts t no_table) (get_or tables t [])) → IsRefused (get_or ts k no_table) (get_or tables k []) wrong →
-      IsRefusal (get_or ts k no_table).name (wrong_column (get_or ts k no_table) wrong) (status.BadRows site place wrong) stop → Along w w (judging site at ts tables next) (stop_of stop)
-  wrong_after site at [] tables next k place wrong stop same e l before is r = absurd (omega (arith, l))
-  wrong_after site at (t ∷ ts) [] next k place wrong stop same e l before is r = absurd (omega (arith, e))
-  wrong_after site at (t ∷ ts) (rows ∷ tables) next zero place wrong stop same e l before is r =
+  wrong_after : (site : Site) (at : ℕ) (ts : List TableModel) (tables : List Rows) (next : Script) (k place : ℕ) (stop : Stop) → place ≡ at + k → length tables ≡ length ts → k < length ts →
+      ((t : ℕ) → t < k → IsValid (get_or ts t no_table) (get_or tables t [])) → WrongRows site place (get_or ts k no_table) (get_or tables k []) stop →
+      Along w w (judging site at ts tables next) (stop_of stop)
+  wrong_after site at [] tables next k place stop same e l before r = absurd (omega (arith, l))
+  wrong_after site at (t ∷ ts) [] next k place stop same e l before r = absurd (omega (arith, e))
+  wrong_after site at (t ∷ ts) (rows ∷ tables) next zero place stop same e l before r =
       let here : place ≡ at = omega (arith, same) in
-      leads_along (known w (Valid t rows) (or_wrong site at t (judging site (at + 1) ts tables next)) (Some wrong) refl is)
-      (refused w t.name (wrong_column t wrong) (status.BadRows site at wrong) stop (subst (λ (n : ℕ). IsRefusal t.name (wrong_column t wrong) (status.BadRows site n wrong) stop) here r))
-  wrong_after site at (t ∷ ts) (rows ∷ tables) next (suc k) place wrong stop same e l before is r =
+      leads_along (known w (Valid t rows) (or_wrong site at t (judging site (at + 1) ts tables next)) (Some r.wrong) refl r.is)
+      (refused w t.name (wrong_column t r.wrong) (status.BadRows site at r.wrong) stop (subst (λ (n : ℕ). IsRefusal t.name (wrong_column t r.wrong) (status.BadRows site n r.wrong) stop) here r.refused))
+  wrong_after site at (t ∷ ts) (rows ∷ tables) next (suc k) place stop same e l before r =
       leads_along (known w (Valid t rows) (or_wrong site at t (judging site (at + 1) ts tables next)) None refl (before 0 (omega arith)))
-      (wrong_after site (at + 1) ts tables next k place wrong stop (omega (arith, same)) (omega (arith, e)) (omega (arith, l)) (λ j m. before (suc j) (omega (arith, m))) is r)
+      (wrong_after site (at + 1) ts tables next k place stop (omega (arith, same)) (omega (arith, e)) (omega (arith, l)) (λ j m. before (suc j) (omega (arith, m))) r)
 
   wrong_table : (s : SchemaModel) (site : Site) (tables : List Rows) (next : Script) (stop : Stop) → length tables ≡ length s.tables → WrongTable s site tables stop →
       Along w w (judging site 0 s.tables tables next) (stop_of stop)
-  wrong_table s site tables next stop e t = let here : t.at ≡ 0 + t.at = omega arith in wrong_after site 0 s.tables tables next t.at t.at t.wrong stop here e t.within t.before t.is t.refused
+  wrong_table s site tables next stop e t = let here : t.at ≡ 0 + t.at = omega arith in wrong_after site 0 s.tables tables next t.at t.at stop here e t.within t.before t.here
 
   all_judged : (s : SchemaModel) (site : Site) (tables : List Rows) (next : Script) → AreValid s tables → Leads w w (judging site 0 s.tables tables next) next
   all_judged s site tables next v = judged site 0 s.tables tables next (all_valid s.tables tables v.each)

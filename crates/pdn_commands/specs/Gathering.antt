@@ -5,7 +5,7 @@ use Rattle.pdn_base.specs.declared.rows_err.RowsErr.{RowsErr}
 use Rattle.pdn_base.specs.declared.site.Site.{Site}
 use Rattle.pdn_base.specs.declared.site.Site.TheVariants.{A, B}
 use Rattle.pdn_base.specs.declared.status.Status.TheVariants as status
-use Rattle.pdn_schema.specs.Models.{SchemaModel, table_of}
+use Rattle.pdn_schema.specs.Models.{SchemaModel, TableModel, table_of}
 use Rattle.pdn_schema.specs.Rows.{IsValid, IsRefused, AreValid, union}
 use Rattle.pdn_sql.specs.declared.query.Query.{Query}
 use Rattle.pdn_tree.specs.declared.node.Node.{Node}
@@ -16,14 +16,18 @@ use Rattle.pdn_script.specs.Stops.{stop_of, IsRefusal}
 use Rattle.pdn_commands.specs.Answering.{units_over, wrong_column}
 use Rattle.pdn_commands.specs.Walk.{NoMemory}
 
+-- a site's rows of a table are refused
+pub record WrongRows (site : Site) (at : ℕ) (t : TableModel) (rows : Rows) (stop : Stop) : Type 0 where
+  pub wrong : RowsErr
+  pub is : IsRefused t rows wrong
+  pub refused : IsRefusal t.name (wrong_column t wrong) (status.BadRows site at wrong) stop
+
 -- the first of a site's tables whose rows aren't valid is refused
 pub record WrongTable (s : SchemaModel) (site : Site) (tables : List Rows) (stop : Stop) : Type 0 where
   pub at : ℕ
   pub within : at < length s.tables
   pub before : (t : ℕ) → t < at → IsValid (table_of s t) (get_or tables t [])
-  pub wrong : RowsErr
-  pub is : IsRefused (table_of s at) (get_or tables at []) wrong
-  pub refused : IsRefusal (table_of s at).name (wrong_column (table_of s at) wrong) (status.BadRows site at wrong) stop
+  pub here : WrongRows site at (table_of s at) (get_or tables at []) stop
 
 -- the first unit that passes a limit is refused
 pub record LargeUnit (s : SchemaModel) (root : Node) (a b : List Rows) (stop : Stop) : Type 0 where
