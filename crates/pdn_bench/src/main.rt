@@ -35,7 +35,7 @@ fn bench(rt: &(impl Env + AllocGlobal + CpuClock + Print)) -> Result<(), Stop> {
     let alloc = rt.alloc();
     let circuit = circuit_of(alloc, shape)?;
     println!(rt; "gates {}", circuit.gates.len())?;
-    println!(rt; "turn ands deal split new order run eval unit kilo_ands_a_second")?;
+    println!(rt; "turn ands deal split order new run eval unit kilo_ands_a_second")?;
     for turn in 0..turns {
         let row = measure(rt, alloc, &circuit)?;
         println!(rt;
@@ -43,8 +43,8 @@ fn bench(rt: &(impl Env + AllocGlobal + CpuClock + Print)) -> Result<(), Stop> {
             row.ands,
             row.each(row.deal),
             row.each(row.split),
-            row.each(row.new),
             row.each(row.order),
+            row.each(row.new),
             row.each(row.run),
             row.each(row.eval),
             row.each(row.unit()),

@@ -3,9 +3,9 @@ ghost use Rattle.std.specs.Prelude.{◌≡◌, length, IfOk};
 
 use crate::stop::Stop;
 use pdn_base::{Site, Word};
-use pdn_circuit::{Circuit, Inputs, eval, gate_depths};
+use pdn_circuit::{Circuit, Inputs, eval};
 use pdn_dealer::{ChaChaDeal, Deal, section_len};
-use pdn_gmw::{Half, run_pair};
+use pdn_gmw::{Half, Schedule, run_pair};
 use std::alloc::Global;
 use std::time::CpuClock;
 
@@ -17,10 +17,10 @@ pub struct Row {
     pub deal: u64,
     /// Both parts of the section.
     pub split: u64,
-    /// Both halves begun: their layers, and the shares of depth 0.
-    pub new: u64,
-    /// The depths alone, as each half computes them too.
+    /// The circuit's schedule, which both halves read: the gates by depth.
     pub order: u64,
+    /// Both halves begun: their views, and the shares of depth 0.
+    pub new: u64,
     /// Both halves to their end: frames, shares, views and outputs.
     pub run: u64,
     /// The plain words.
@@ -37,6 +37,7 @@ impl Row {
     pub fn unit(&self) -> u64 {
         self.deal
             .saturating_add(self.split)
+            .saturating_add(self.order)
             .saturating_add(self.new)
             .saturating_add(self.run)
     }
@@ -53,7 +54,6 @@ pub fn measure(rt: &impl CpuClock, alloc: Global, circuit: &Circuit) -> Result<R
     let own_b = zeros(alloc, circuit.input_count(Site::B))?;
     let given_a = zeros(alloc, circuit.given_count())?;
     let given_b = zeros(alloc, circuit.given_count())?;
-    let order = order_time(rt, alloc, circuit)?;
     let eval = eval_time(rt, alloc, circuit)?;
     let deal = ChaChaDeal::new([7; 32]);
     let t0 = now(rt)?;
@@ -61,26 +61,22 @@ pub fn measure(rt: &impl CpuClock, alloc: Global, circuit: &Circuit) -> Result<R
     let t1 = now(rt)?;
     let (part_a, part_b) = section.split(alloc, circuit)?;
     let t2 = now(rt)?;
-    let a = Half::new(alloc, circuit, Site::A, own_a, given_a, part_a)?;
-    let b = Half::new(alloc, circuit, Site::B, own_b, given_b, part_b)?;
+    let schedule = Schedule::new(alloc, circuit)?;
     let t3 = now(rt)?;
-    let run = run_pair(alloc, a, b)?;
+    let a = Half::on(alloc, &schedule, Site::A, own_a, given_a, part_a)?;
+    let b = Half::on(alloc, &schedule, Site::B, own_b, given_b, part_b)?;
     let t4 = now(rt)?;
+    let run = run_pair(alloc, a, b)?;
+    let t5 = now(rt)?;
     Ok(Row {
         ands: run.a().view().gates.len() as u64,
         deal: t1.saturating_sub(t0),
         split: t2.saturating_sub(t1),
-        new: t3.saturating_sub(t2),
-        order,
-        run: t4.saturating_sub(t3),
+        order: t3.saturating_sub(t2),
+        new: t4.saturating_sub(t3),
+        run: t5.saturating_sub(t4),
         eval,
     })
-}
-
-fn order_time(rt: &impl CpuClock, alloc: Global, circuit: &Circuit) -> Result<u64, Stop> {
-    let start = now(rt)?;
-    let _depths = gate_depths(alloc, circuit)?;
-    Ok(now(rt)?.saturating_sub(start))
 }
 
 fn eval_time(rt: &impl CpuClock, alloc: Global, circuit: &Circuit) -> Result<u64, Stop> {

@@ -7,7 +7,7 @@ use crate::shares::Shares;
 use pdn_base::{Memory, Site};
 use pdn_circuit::Circuit;
 use pdn_dealer::{Deal, section_len};
-use pdn_gmw::{Half, UnitRun, run_pair};
+use pdn_gmw::{Half, Schedule, UnitRun, run_pair};
 use std::alloc::Global;
 
 /// The run of a circuit by two halves, on the sites' own words and their shares of given ones, as many as the circuit takes, and on
@@ -28,7 +28,8 @@ pub fn run_unit<D: Deal>(
 {
     let section = deal.section(alloc, at.ticket, at.unit, section_len(circuit))?;
     let (part_a, part_b) = section.split(alloc, circuit)?;
-    let a = Half::new(alloc, circuit, Site::A, own.a, given.a, part_a)?;
-    let b = Half::new(alloc, circuit, Site::B, own.b, given.b, part_b)?;
+    let schedule = Schedule::new(alloc, circuit)?;
+    let a = Half::on(alloc, &schedule, Site::A, own.a, given.a, part_a)?;
+    let b = Half::on(alloc, &schedule, Site::B, own.b, given.b, part_b)?;
     run_pair(alloc, a, b)
 }

@@ -1,10 +1,7 @@
 //! Single gates and blocks of gates, evaluated in plain, and bounds of gates.
-ghost use Rattle.std.specs.Prelude.{◌<◌, ◌≤◌, ◌+◌};
-
 use crate::lists::{of_a, words_of, words_on};
 use pdn_base::{Site, Word};
 use pdn_circuit::{BuildErr, Builder, Inputs, Pick};
-use std::alloc::Global;
 use std::test::Fail;
 
 // lanes 0, 1, 31, 32, 62 and 63
@@ -17,41 +14,27 @@ fn word_at(words: &[Word], gate: u32) -> Option<u64> {
     words.get(gate as usize).map(Word::to_u64)
 }
 
-fn spread_of(alloc: Global, word: u64, lane: u8) -> Result<Option<u64>, Fail>
-    requires { lane < 64 }
-{
-    let mut b = Builder::new(alloc, 0, 8)?;
-    let a = b.constant(Word::from_u64(word))?;
-    let gate = b.spread(a, lane)?;
-    Ok(word_at(&words_of(alloc, b, Vec::new(alloc))?, gate))
-}
-
-fn moved_of(alloc: Global, word: u64, from: u8, count: u8, to: u8) -> Result<Option<u64>, Fail>
-    requires some { 1 ≤ count }
-    requires from { from + count ≤ 64 }
-    requires to { to + count ≤ 64 }
-{
-    let mut b = Builder::new(alloc, 0, 8)?;
-    let a = b.constant(Word::from_u64(word))?;
-    let gate = b.move_lanes(a, from, count, to)?;
-    Ok(word_at(&words_of(alloc, b, Vec::new(alloc))?, gate))
-}
-
 #[test]
 fn a_lane_is_spread_and_lanes_are_moved_from_their_own_places(rt: HostRuntime) -> Result<(), Fail> {
     let alloc = rt.alloc();
-    assert!(rt; spread_of(alloc, EDGES, 63)? == Some(u64::MAX));
-    assert!(rt; spread_of(alloc, SOME, 62)? == Some(0));
-    assert!(rt; spread_of(alloc, SOME, 32)? == Some(u64::MAX));
-    assert!(rt; spread_of(alloc, SOME, 31)? == Some(0));
-    assert!(rt; spread_of(alloc, SOME, 1)? == Some(0));
-    assert!(rt; spread_of(alloc, SOME, 0)? == Some(u64::MAX));
-    assert!(rt; moved_of(alloc, EDGES, 62, 2, 0)? == Some(3));
-    assert!(rt; moved_of(alloc, EDGES, 0, 2, 62)? == Some(0xc000_0000_0000_0000));
-    assert!(rt; moved_of(alloc, EDGES, 31, 2, 31)? == Some(0x1_8000_0000));
-    assert!(rt; moved_of(alloc, SOME, 31, 2, 0)? == Some(2));
-    assert!(rt; moved_of(alloc, SOME, 63, 1, 0)? == Some(1));
-    assert!(rt; moved_of(alloc, SOME, 0, 64, 0)? == Some(SOME));
+    let mut b = Builder::new(alloc, 0, 16)?;
+    let edges = b.constant(Word::from_u64(EDGES))?;
+    let some = b.constant(Word::from_u64(SOME))?;
+    let set = b.spread(edges, 63)?;
+    let clear = b.spread(some, 31)?;
+    let low = b.move_lanes(edges, 62, 2, 0)?;
+    let high = b.move_lanes(edges, 0, 2, 62)?;
+    let same = b.move_lanes(some, 0, 64, 0)?;
+    let words = words_of(alloc, b, Vec::new(alloc))?;
+    for (gate, wanted) in [
+        (set, u64::MAX),
+        (clear, 0),
+        (low, 3),
+        (high, 0xc000_0000_0000_0000),
+        (same, SOME),
+    ] {
+        assert_eq!(rt; word_at(&words, gate), Some(wanted));
+    }
     Ok(())
 }
 
@@ -138,20 +121,5 @@ fn words_are_compared_lane_by_lane(rt: HostRuntime) -> Result<(), Fail> {
     // the lower planes are the same in lanes 0 and 3 and from lane 4 on
     assert!(rt; word_at(&words, equal) == Some(u64::MAX - 0b0110));
     assert!(rt; word_at(&words, other) == Some(u64::MAX - 0b0101));
-    Ok(())
-}
-
-#[test]
-fn a_sum_has_33_bits(rt: HostRuntime) -> Result<(), Fail> {
-    let alloc = rt.alloc();
-    let mut b = Builder::new(alloc, 64, 1_000)?;
-    let sums = b.plus(&[1; 32], 8)?;
-    let words = words_of(alloc, b, Vec::new(alloc))?;
-    let mut number = 0u64;
-    for plane in sums.iter().rev() {
-        number = (number << 1) | (word_at(&words, *plane).unwrap_or(0) & 1);
-    }
-    // 4294967295 and 8
-    assert_eq!(rt; number, 4_294_967_303);
     Ok(())
 }

@@ -58,8 +58,7 @@ fn answer(
     told(alloc, b, out, words_with(alloc, len, 1, rubbish, rows)?)
 }
 
-/// An operator, its And gates over three rows of a number, what it gives of the rows 9, 4 and 9 in them, and of those of
-/// value 9 alone.
+/// An operator, its And gates over three rows of a number, and what it gives of the rows 9, 4 and 9 in them.
 const WITHIN: &[(Operator, u32, &str)] = &[
     (Operator::Distinct, 100, " 9; 4;"),
     (Operator::Count, 3, " 3;"),
@@ -82,56 +81,26 @@ fn an_operator_over_three_rows_makes_so_many_and_gates(rt: HostRuntime) -> Resul
     Ok(())
 }
 
-/// An operator, the rubbish and the rows of three that are there, and what it gives.
-const OF_THREE: &[(Operator, u32, &[Placed], &str)] = &[
-    (Operator::Distinct, 9, &[(1, 4, 0), (2, 9, 0)], " 4; 9;"),
-    (Operator::Distinct, 4, &[(0, 9, 0), (2, 9, 0)], " 9;"),
-    (Operator::Distinct, 9, &[], ""),
-    (Operator::Count, 4, &[(0, 9, 0), (2, 9, 0)], " 2;"),
-    (Operator::Count, 9, &[(2, 9, 0)], " 1;"),
-    (Operator::Count, 9, &[], " 0;"),
-    (Operator::CutDistinct(9), 9, &[(0, 9, 0), (2, 9, 0)], " 9;"),
-    (Operator::CutDistinct(9), 9, &[], ""),
-    (Operator::CutGroup(7, None), 7, &[], ""),
-    (Operator::CutGroup(7, Some(0)), 7, SEVENS, " 7 3;"),
-    (Operator::CutGroup(7, Some(1)), 7, SEVENS, " 7 3;"),
-    (Operator::CutGroup(7, Some(3)), 7, SEVENS, " 7 3;"),
-    (Operator::CutGroup(7, Some(4)), 7, SEVENS, ""),
-    (
-        Operator::CutGroup(7, Some(3)),
-        7,
-        &[(0, 7, 0), (2, 7, 0)],
-        "",
-    ),
-    (Operator::Group(Some(2)), 0, NINES, " 9 2;"),
-    (Operator::Group(Some(3)), 0, NINES, ""),
-    (
-        Operator::Group(None),
-        9,
-        &[(1, 4, 0), (2, 9, 0)],
-        " 4 1; 9 1;",
-    ),
+/// An operator, the length of a list, its rubbish and the rows of it that are there, and what the operator gives.
+const ANSWERS: &[(Operator, u32, u32, &[Placed], &str)] = &[
+    (Operator::Distinct, 3, 9, &[(1, 4, 0), (2, 9, 0)], " 4; 9;"),
+    (Operator::Distinct, 3, 9, &[], ""),
+    (Operator::Distinct, 128, 5, TWO, " 5; 9; 7;"),
+    (Operator::Distinct, 65, u32::MAX, MORE, " 5; 7;"),
+    (Operator::Count, 3, 4, &[(0, 9, 0), (2, 9, 0)], " 2;"),
+    (Operator::Count, 3, 9, &[], " 0;"),
+    (Operator::CutDistinct(9), 3, 9, &[], ""),
+    (Operator::CutGroup(7, None), 3, 7, &[], ""),
+    (Operator::CutGroup(7, Some(0)), 3, 7, SEVENS, " 7 3;"),
+    (Operator::CutGroup(7, Some(3)), 3, 7, SEVENS, " 7 3;"),
+    (Operator::CutGroup(7, Some(4)), 3, 7, SEVENS, ""),
+    (Operator::Group(None), 128, 5, TWO, " 5 2; 9 2; 7 1;"),
+    (Operator::Group(Some(0)), 65, 5, MORE, " 5 2; 7 1;"),
+    (Operator::Group(Some(2)), 65, u32::MAX, MORE, " 5 2;"),
+    (Operator::Group(Some(3)), 65, 5, MORE, ""),
 ];
 
 const SEVENS: &[Placed] = &[(0, 7, 0), (1, 7, 0), (2, 7, 0)];
-
-const NINES: &[Placed] = &[(0, 9, 0), (1, 4, 0), (2, 9, 0)];
-
-/// Rows of one, two and two words, and for each operator what it gives of them.
-const OF_MANY: &[(Operator, u32, &[Placed], &str)] = &[
-    (Operator::Distinct, 64, ONE, " 5; 7; 9;"),
-    (Operator::Distinct, 65, MORE, " 5; 7;"),
-    (Operator::Distinct, 128, TWO, " 5; 9; 7;"),
-    (Operator::Group(None), 64, ONE, " 5 2; 7 2; 9 1;"),
-    (Operator::Group(None), 65, MORE, " 5 2; 7 1;"),
-    (Operator::Group(None), 128, TWO, " 5 2; 9 2; 7 1;"),
-    (Operator::Group(Some(0)), 65, MORE, " 5 2; 7 1;"),
-    (Operator::Group(Some(1)), 65, MORE, " 5 2; 7 1;"),
-    (Operator::Group(Some(2)), 65, MORE, " 5 2;"),
-    (Operator::Group(Some(3)), 65, MORE, ""),
-];
-
-const ONE: &[Placed] = &[(1, 5, 0), (3, 7, 0), (31, 5, 0), (62, 7, 0), (63, 9, 0)];
 
 const MORE: &[Placed] = &[(1, 5, 0), (62, 7, 0), (64, 5, 0)];
 
@@ -142,16 +111,9 @@ fn equal_rows_are_one_where_they_occur_first_and_rubbish_is_none(
     rt: HostRuntime,
 ) -> Result<(), Fail> {
     let alloc = rt.alloc();
-    for (operator, rubbish, rows, wanted) in OF_THREE {
-        let found = answer(alloc, *operator, 1_000, 3, *rubbish, rows)?;
-        assert_eq!(rt; found.as_str(), *wanted, "{operator:?}");
-    }
-    // the rubbish is the number of a row, or of none
-    for (operator, len, rows, wanted) in OF_MANY {
-        for rubbish in [5, u32::MAX] {
-            let found = answer(alloc, *operator, 100_000, *len, rubbish, rows)?;
-            assert_eq!(rt; found.as_str(), *wanted, "{operator:?} {len}");
-        }
+    for (operator, len, rubbish, rows, wanted) in ANSWERS {
+        let found = answer(alloc, *operator, 100_000, *len, *rubbish, rows)?;
+        assert_eq!(rt; found.as_str(), *wanted, "{operator:?} {len}");
     }
     Ok(())
 }

@@ -25,7 +25,7 @@ fn input_plane(alloc: Global, b: &mut Builder, len: u32) -> Result<Vec<u32>, Fai
 }
 
 /// The next input words of site A as a list.
-pub fn input_list(
+fn input_list(
     alloc: Global,
     b: &mut Builder,
     kinds: Vec<Kind>,

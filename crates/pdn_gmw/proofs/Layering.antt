@@ -1,5 +1,5 @@
 -- The layers, gate by gate.
-use Rattle.std.proofs.Common.{◌≡◌, ℕ, zero, suc, ◌+◌, ◌<◌, ◌≤◌, max, Bool, true, false, cond, eqb, ◌&&◌, List, [], ◌∷◌, ◌++◌, length, get_or, set, map, take, replicate, refl, sym, ap, ◌∙◌, subst, ⊎_elim, arith, length-append, append-nil, get_or-set_same, get_or-set_other}
+use Rattle.std.proofs.Common.{◌≡◌, ℕ, zero, suc, ◌+◌, ◌<◌, ◌≤◌, max, Bool, true, false, cond, eqb, ◌&&◌, List, [], ◌∷◌, ◌++◌, length, get_or, set, map, take, replicate, refl, sym, ap, ◌∙◌, ⊎_elim, arith, length-append, append-nil, get_or-set_same, get_or-set_other}
 use Rattle.std.specs.Prelude.{slice_index, slice_index_or, slice_set}
 use Rattle.std.specs.List.{fold, filter, range_with_len}
 use Rattle.std.proofs.lemmas.Bool.Decides.{eqb_tells}
@@ -12,7 +12,7 @@ use Rattle.pdn_circuit.proofs.ValueLaws.{ands_more}
 use Rattle.pdn_circuit.specs.Depths.{gate_depth, next_depths, depths_of}
 use Rattle.pdn_circuit.specs.Gates.{is_and}
 use Rattle.pdn_gmw.specs.Steps.{frame_count}
-use Rattle.pdn_gmw.specs.Layers.{LayerAnd, is_linear, first_of, second_of, gate_at, number_of_and, and_of, is_layer_and, is_layer_rest, LayerWords, no_layer, layer_to, layer_of, layer_more, AreLayers}
+use Rattle.pdn_gmw.specs.Layers.{LayerAnd, is_linear, gate_at, number_of_and, and_of, is_layer_and, is_layer_rest, LayerWords, no_layer, layer_to, layer_more}
 
 -- ---- depths
 depths_long : (gates : List Gate) (ds : List ℕ) → length (fold next_depths ds gates) ≡ length ds + length gates
@@ -26,7 +26,7 @@ max_from : (xs : List ℕ) (a : ℕ) → a ≤ fold max a xs
 max_from [] a = omega arith
 max_from (x ∷ xs) a = let h = max_from xs (max a x) in omega arith
 
-max_over : (xs : List ℕ) (a k : ℕ) → get_or xs k 0 ≤ fold max a xs
+pub max_over : (xs : List ℕ) (a k : ℕ) → get_or xs k 0 ≤ fold max a xs
 max_over [] a k = omega arith
 max_over (x ∷ xs) a zero = let h = max_from xs (max a x) in omega arith
 max_over (x ∷ xs) a (suc k) = max_over xs (max a x) k
@@ -62,7 +62,7 @@ filtered_more p n =
     let z : 0 + n ≡ n = omega arith in
     ap (filter p) (range_more 0 n) ∙ filter-append p (range_with_len 0 n) ((0 + n) ∷ []) ∙ ap (λ (k : ℕ). filter p (range_with_len 0 n) ++ filter p (k ∷ [])) z
 
-mapped_more : {X : Type 0} (f : ℕ → X) (p : ℕ → Bool) (n : ℕ) → map f (filter p (range_with_len 0 (n + 1))) ≡ map f (filter p (range_with_len 0 n)) ++ cond (p n) (f n ∷ []) []
+pub mapped_more : {X : Type 0} (f : ℕ → X) (p : ℕ → Bool) (n : ℕ) → map f (filter p (range_with_len 0 (n + 1))) ≡ map f (filter p (range_with_len 0 n)) ++ cond (p n) (f n ∷ []) []
 mapped_more f p n =
     ap (map f) (filtered_more p n) ∙ map-append f (filter p (range_with_len 0 n)) (cond (p n) (n ∷ []) [])
     ∙ ap (λ xs. map f (filter p (range_with_len 0 n)) ++ xs) (map_one f n (p n))

@@ -7,6 +7,8 @@ pub mod Layering
 pub mod Settling
 pub mod Picking
 pub mod Stepping
+pub mod Leaves
+pub mod Exchanging
 pub mod Putting
 pub mod Running
 pub mod Meeting

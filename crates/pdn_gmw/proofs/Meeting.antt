@@ -1,5 +1,5 @@
 -- The halves of one section meet.
-use Rattle.std.proofs.Common.{◌≡◌, ℕ, List, [], ◌∷◌, length, map, refl, sym, ap, ◌∙◌, subst, arith}
+use Rattle.std.proofs.Common.{◌≡◌, ℕ, List, [], ◌∷◌, length, map, refl, sym, ap, ◌∙◌, subst}
 use Rattle.std.specs.List.{range_with_len}
 use lib.Lanes.{zip2}
 use Rattle.std.proofs.lemmas.List.{length-map}
@@ -8,8 +8,9 @@ use Rattle.pdn_base.specs.declared.site.Site.{Site}
 use Rattle.pdn_base.specs.declared.site.Site.TheVariants.{A, B}
 use Rattle.pdn_circuit.specs.Gates.{Net, input_count, given_count}
 use Rattle.pdn_dealer.specs.Tapes.{first_words}
-use Rattle.pdn_dealer.specs.Sections.{Five, Layout, PartWords, triple_of, part_of, section_length, layout_of, five_count}
+use Rattle.pdn_dealer.specs.Sections.{Five, Layout, PartWords, triple_of, part_of, section_length, layout_of}
 use Rattle.pdn_dealer.proofs.SectionWords.{covers_of}
+use Rattle.pdn_gmw.specs.Halves.{HalfWords}
 use Rattle.pdn_gmw.specs.Steps.{HalfState, half_words, Fits, begun}
 use Rattle.pdn_gmw.specs.Pairs.{joined_five, joined, AreParts, ArePair}
 
@@ -43,3 +44,10 @@ halves_of_section net t own_a own_b given_a given_b part_a part_b a b pa pb l ea
 
 pub length-first_words : (word : ℕ → ℕ) (len : ℕ) → length (first_words word len) ≡ len
 length-first_words word len = length-map (range_with_len 0 len) word ∙ length-range_with_len 0 len
+
+-- a half on the schedule of a circuit is one of that circuit
+pub fits_on : (net now : Net) (half : HalfWords) → now ≡ net → Fits net half → Fits now half
+fits_on net now half e f = subst (λ (n : Net). Fits n half) (sym e) f
+
+pub begun_on : (s : HalfState) (net now : Net) (half : HalfWords) → now ≡ net → s ≡ begun now half → s ≡ begun net half
+begun_on s net now half e b = b ∙ ap (λ (n : Net). begun n half) e

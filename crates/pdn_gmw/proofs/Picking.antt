@@ -1,10 +1,10 @@
 -- Frames by depth: what is picked for a depth, and where what comes in is put.
-use Rattle.std.proofs.Common.{◌≡◌, ℕ, zero, suc, ◌+◌, ◌*◌, ◌<◌, ◌≤◌, Bool, true, false, cond, eqb, ◌&&◌, List, [], ◌∷◌, ◌++◌, length, get_or, set, map, take, refl, sym, ap, ◌∙◌, subst, ⊎_elim, arith, length-append, append_assoc, append-nil}
-use Rattle.std.specs.Prelude.{slice_index, slice_index_or, slice_set}
-use Rattle.std.specs.List.{fold, filter, flat_map, range_with_len}
-use Rattle.std.proofs.lemmas.Bool.{false≢true, cases_Bool, cond-true, cond-false}
+use Rattle.std.proofs.Common.{◌≡◌, ℕ, suc, ◌+◌, ◌<◌, Bool, true, false, cond, eqb, ◌&&◌, List, [], ◌∷◌, ◌++◌, length, get_or, set, map, take, refl, sym, ap, ◌∙◌, ⊎_elim, arith, length-append, append_assoc}
+use Rattle.std.specs.Prelude.{slice_index, slice_index_or}
+use Rattle.std.specs.List.{filter, range_with_len}
+use Rattle.std.proofs.lemmas.Bool.{cond-true, cond-false}
 use Rattle.std.proofs.lemmas.Bool.Decides.{eqb_tells}
-use Rattle.std.proofs.lemmas.List.{get_or_at, length-map, take_more, get_or_append_left}
+use Rattle.std.proofs.lemmas.List.{get_or_at, length-map}
 use Rattle.pdn_circuit.specs.declared.gate.Gate.{Gate}
 use Rattle.pdn_circuit.specs.declared.gate.Gate.TheVariants.{Input, Given, Const, Xor, And, Spread, Move}
 use Rattle.pdn_circuit.specs.Gates.{operands_of, ands}
@@ -12,7 +12,7 @@ use Rattle.pdn_circuit.specs.Depths.{and_rounds_from, and_rounds, own_round, dep
 use Rattle.pdn_circuit.specs.Gates.{is_and}
 use Rattle.pdn_gmw.specs.Shares.{Masked, blank}
 use Rattle.pdn_gmw.specs.Rounds.{pick, put}
-use Rattle.pdn_gmw.specs.Layers.{LayerAnd, gate_at, number_of_and, and_of, is_layer_and}
+use Rattle.pdn_gmw.specs.Layers.{gate_at, number_of_and, is_layer_and}
 
 -- the gates from a place on: how many And gates stand before it
 pub record From (gates gs : List Gate) (from n : ℕ) : Type 0 where
@@ -165,3 +165,27 @@ put_from gates d (And x y ∷ gs) from n pre (h ∷ hs) (i ∷ fr) f l m =
 
 pub put_laid : (gates : List Gate) (d : ℕ) (hs fr : List Masked) → length hs ≡ length (ands gates) → put d (and_rounds gates (depths_of gates)) hs fr ≡ laid (numbers gates d 0 (length gates)) fr hs
 put_laid gates d hs fr l = put_from gates d gates 0 0 [] hs fr (from_start gates) refl l
+
+-- what was put for a depth is what is picked for it
+pub pick_put : (d : ℕ) (es : List ℕ) (hs fr : List Masked) → length hs ≡ length es → length (pick d es hs) ≡ length fr → pick d es (put d es hs fr) ≡ fr
+pick_put d [] [] [] l m = refl
+pick_put d [] [] (f ∷ fr) l m = absurd (omega arith)
+pick_put d [] (h ∷ hs) fr l m = absurd (omega arith)
+pick_put d (e ∷ es) [] fr l m = absurd (omega arith)
+pick_put d (e ∷ es) (h ∷ hs) [] l m =
+    ⊎_elim
+    (λ t. let z = ap length (cond-true (eqb e d) (h ∷ pick d es hs) (pick d es hs) t.0) in absurd (omega (arith, m, z)))
+    (λ t. let z = ap length (cond-false (eqb e d) (h ∷ pick d es hs) (pick d es hs) t.0) in
+    cond-false (eqb e d) (h ∷ pick d es (put d es hs [])) (pick d es (put d es hs [])) t.0 ∙ pick_put d es hs [] (omega arith) (omega (arith, m, z)))
+    (eqb_tells e d)
+pick_put d (e ∷ es) (h ∷ hs) (f ∷ fr) l m =
+    ⊎_elim
+    (λ t. let z = ap length (cond-true (eqb e d) (h ∷ pick d es hs) (pick d es hs) t.0) in
+    ap (pick d (e ∷ es)) (cond-true (eqb e d) (f ∷ put d es hs fr) (h ∷ put d es hs (f ∷ fr)) t.0)
+    ∙ cond-true (eqb e d) (f ∷ pick d es (put d es hs fr)) (pick d es (put d es hs fr)) t.0
+    ∙ ap (λ (xs : List Masked). f ∷ xs) (pick_put d es hs fr (omega arith) (omega (arith, m, z))))
+    (λ t. let z = ap length (cond-false (eqb e d) (h ∷ pick d es hs) (pick d es hs) t.0) in
+    ap (pick d (e ∷ es)) (cond-false (eqb e d) (f ∷ put d es hs fr) (h ∷ put d es hs (f ∷ fr)) t.0)
+    ∙ cond-false (eqb e d) (h ∷ pick d es (put d es hs (f ∷ fr))) (pick d es (put d es hs (f ∷ fr))) t.0
+    ∙ pick_put d es hs (f ∷ fr) (omega arith) (omega (arith, m, z)))
+    (eqb_tells e d)

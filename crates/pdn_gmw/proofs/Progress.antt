@@ -1,22 +1,17 @@
 -- The walk of a half, gate by gate.
-use Rattle.std.proofs.Common.{◌≡◌, ℕ, zero, suc, ◌+◌, ◌*◌, ◌<◌, ◌≤◌, List, [], ◌∷◌, ◌++◌, length, get_or, set, take, drop, cond, Bool, true, false, refl, sym, ap, ◌∙◌, subst, ⊎_elim, arith, length-append, length-take-le}
-use Rattle.std.specs.Prelude.{slice_index, slice_set}
-use Rattle.std.specs.List.{fold, flat_map, count_by, sum_by}
+use Rattle.std.proofs.Common.{◌≡◌, ℕ, suc, ◌+◌, ◌<◌, ◌≤◌, List, [], ◌∷◌, length, get_or, take, drop, cond, Bool, true, refl, sym, ap, ◌∙◌, subst, arith, length-append, length-take-le}
+use Rattle.std.specs.List.{fold, count_by}
 use Rattle.std.proofs.Math.Seq.{drop-cons}
-use Rattle.std.proofs.lemmas.Bool.{false≢true, cases_Bool}
-use Rattle.std.proofs.lemmas.List.{length-map, get_or_append_left, get_or_at, get_or-take, take-append-drop, take_more, take_more_set, get_or-set_other, get_or_default, length-set}
-use Rattle.std.proofs.lemmas.List.Sums.{fold-append, sum_by-cons, sum_by-take-le, count_by-le-length}
+use Rattle.std.proofs.lemmas.List.{length-map, get_or_append_left, get_or_at, take-append-drop, take_more}
+use Rattle.std.proofs.lemmas.List.Sums.{fold-append, sum_by-cons}
 use Rattle.pdn_base.specs.declared.site.Site.{Site}
 use Rattle.pdn_base.specs.declared.site.Site.TheVariants.{A, B}
 use Rattle.pdn_circuit.specs.declared.gate.Gate.{Gate}
 use Rattle.pdn_circuit.specs.declared.gate.Gate.TheVariants.{Input, Given, Const, Xor, And, Spread, Move}
-use Rattle.pdn_circuit.specs.Gates.{Net, InOrder, operands_of, ands, is_input, is_input_of, is_given, input_count, given_count, NamesBelow, TakesNext, IsCircuit}
+use Rattle.pdn_circuit.specs.Gates.{Net, InOrder, operands_of, ands, is_input, is_input_of, is_given, input_count, NamesBelow, TakesNext, IsCircuit}
 use Rattle.pdn_circuit.proofs.Reading.{counts_on}
-use Rattle.pdn_dealer.specs.Sections.{r_count, five_count}
-use Rattle.pdn_circuit.specs.Gates.{is_and}
-use Rattle.pdn_dealer.proofs.SectionWords.{length-ands}
 use Rattle.pdn_gmw.specs.Shares.{Masked, blank, inputs_after}
-use Rattle.pdn_gmw.specs.Halves.{HalfWords, HalfWalk, half_start, heard_at, share_from, masked_from, half_share, half_sends, half_masked, half_step, half_walk, IsOwn}
+use Rattle.pdn_gmw.specs.Halves.{HalfWords, HalfWalk, half_start, share_from, masked_from, half_share, half_sends, half_masked, half_step, half_walk, IsOwn}
 use Rattle.pdn_gmw.specs.Known.{HeldWords, HasLeaves, CanLeaf}
 use Rattle.pdn_gmw.proofs.TwoHalves.{sent_here}
 

@@ -1,11 +1,10 @@
 -- The outputs, written one by one.
 use Rattle.std.proofs.Common.{◌≡◌, ℕ, ◌+◌, ◌<◌, List, length, get_or, set, map, cond, Bool, true, false, refl, sym, ap, ◌∙◌, subst, arith, get_or-set_same, get_or-set_other, below_more}
 use Rattle.std.specs.Prelude.{slice_index}
-use Rattle.std.proofs.lemmas.List.{take_all, length-map, get_or-map, get_or_read, length-set, ext_get_or}
-use Rattle.pdn_base.specs.Words.{◌⊕◌, xor_lists}
+use Rattle.std.proofs.lemmas.List.{length-map, get_or-map, get_or_read, ext_get_or}
+use Rattle.pdn_base.specs.Words.{xor_lists}
 use Rattle.pdn_base.proofs.WordLists.{length-xor_lists, get_or-xor_lists}
 use Rattle.pdn_circuit.specs.Gates.{Net}
-use Rattle.pdn_circuit.specs.declared.gate.Gate.{Gate}
 use Rattle.pdn_gmw.specs.declared.half.Half.TheInside.{Inside}
 use Rattle.pdn_gmw.specs.declared.stage.Stage.{Stage}
 use Rattle.pdn_gmw.specs.declared.stage.Stage.TheVariants.{Over}
@@ -59,10 +58,10 @@ share_read net now masks shares k at share word e l p b q r =
     ∙ ap (covered now.released masks k) (get_or_read shares at share b q 0 ∙ ap (λ n. get_or shares n 0) place)
 
 -- a half at its end has all its shares
-pub all_known : (h : Inside) → IsHalf h → h.stage ≡ Over → h.shares.items ≡ (half_walk (held h.holdings h.views.items) (map received h.views.items) h.circuit.gates).shares
+pub all_known : (h : Inside) → IsHalf h → h.stage ≡ Over → h.shares.items ≡ (half_walk (held h.holdings h.views.items) (map received h.views.items) h.schedule.gates).shares
 all_known h keeps e =
-    let end : h.taken ≡ frame_count h.circuit = subst (λ (t : Stage). AtStage (state_of h) h.frame.items t) e keeps.stage in
+    let end : h.taken ≡ frame_count h.schedule = subst (λ (t : Stage). AtStage (state_of h) h.frame.items t) e keeps.stage in
     let long = keeps.shares in
-    ext_get_or 0 h.shares.items (half_walk (held h.holdings h.views.items) (map received h.views.items) h.circuit.gates).shares
-    (long ∙ sym (length-shares (held h.holdings h.views.items) (map received h.views.items) h.circuit.gates))
-    (λ j l. keeps.known j (omega arith) (omega (arith, no_deeper h.circuit j)))
+    ext_get_or 0 h.shares.items (half_walk (held h.holdings h.views.items) (map received h.views.items) h.schedule.gates).shares
+    (long ∙ sym (length-shares (held h.holdings h.views.items) (map received h.views.items) h.schedule.gates))
+    (λ j l. keeps.known j (omega arith) (omega (arith, no_deeper h.schedule j)))

@@ -1,14 +1,12 @@
 -- Two halves that run against each other.
-use Rattle.std.proofs.Common.{◌≡◌, ℕ, zero, suc, ◌+◌, ◌<◌, ◌*◌, ◌^◌, ◌≤◌, cond, eqb, ⊎_elim, List, [], ◌∷◌, ◌++◌, length, get_or, take, map, replicate, refl, sym, ap, ◌∙◌, subst, arith, length-append, All}
+use Rattle.std.proofs.Common.{◌≡◌, ℕ, zero, suc, ◌+◌, ◌<◌, ◌*◌, ◌^◌, ◌≤◌, eqb, ⊎_elim, List, [], ◌∷◌, ◌++◌, length, get_or, replicate, refl, sym, ap, ◌∙◌, subst, arith, All}
 use Rattle.std.specs.Prelude.{slice_index}
-use Rattle.std.specs.List.{fold, flat_map, range_with_len}
-use lib.Lanes.{zip2}
+use Rattle.std.specs.List.{flat_map}
 use Rattle.std.proofs.lemmas.Bool.{cases_Bool, cond-true, cond-false}
 use Rattle.std.proofs.lemmas.List.Sums.{count_by-le-length}
 use Rattle.pdn_circuit.specs.Gates.{is_and}
 use Rattle.pdn_dealer.proofs.SectionWords.{length-ands}
-use Rattle.std.proofs.lemmas.List.{length-map, length-replicate}
-use Rattle.std.proofs.lemmas.List.FromFn.{length-range_with_len, get_or-range_with_len, get_or-map-range_with_len}
+use Rattle.std.proofs.lemmas.List.{length-map}
 use Rattle.pdn_base.specs.Words.{◌⊕◌, xor_lists}
 use Rattle.pdn_base.proofs.WordLaws.{other_part}
 use Rattle.pdn_base.proofs.WordLists.{length-xor_lists}
@@ -16,16 +14,15 @@ use Rattle.pdn_base.specs.declared.site.Site.{Site}
 use Rattle.pdn_base.specs.declared.site.Site.TheVariants.{A, B}
 use Rattle.pdn_circuit.specs.declared.gate.Gate.{Gate}
 use Rattle.pdn_circuit.specs.declared.gate.Gate.TheVariants.{Input, Given, Const, Xor, And, Spread, Move}
-use Rattle.pdn_circuit.specs.Gates.{Net, IsCircuit, ands, operands_of, output_words}
-use Rattle.pdn_circuit.specs.Depths.{own_round, and_rounds_from, and_rounds, depths_of}
-use Rattle.pdn_dealer.specs.declared.parts.Triple.{Triple}
-use Rattle.pdn_dealer.specs.Sections.{Five, Layout, PartWords, part_of, triple_of, five_count, Covers}
-use Rattle.pdn_gmw.specs.declared.stage.Stage.TheVariants.{Ready, Sent, Over}
-use Rattle.pdn_gmw.specs.Shares.{Masked, blank, World, UnitWords, view_of, put_out}
+use Rattle.pdn_circuit.specs.Gates.{Net, IsCircuit, output_words}
+use Rattle.pdn_circuit.specs.Depths.{own_round, and_rounds_from, depths_of}
+use Rattle.pdn_dealer.specs.Sections.{Layout, PartWords, part_of, triple_of, five_count}
+use Rattle.pdn_gmw.specs.declared.stage.Stage.TheVariants.{Ready, Sent}
+use Rattle.pdn_gmw.specs.Shares.{Masked, blank, UnitWords, view_of, put_out}
 use Rattle.pdn_gmw.specs.Halves.{HalfWords, half_walk, half_of, half_view, half_outputs, HaveTalked, IsRun}
 use Rattle.pdn_gmw.specs.Rounds.{pick, put, Heard, heard_after}
-use Rattle.pdn_gmw.specs.Steps.{HalfState, Fits, begun, rounds_of, frame_count, masked_words, masked_of, next_frame, after_next, after_take, FinishedHalf, finished, finished_of}
-use Rattle.pdn_gmw.specs.Pairs.{joined_five, joined, AreParts, ArePair, inputs_of, world_of, section_of_pair, run_of}
+use Rattle.pdn_gmw.specs.Steps.{HalfState, Fits, begun, rounds_of, frame_count, masked_words, masked_of, next_frame, after_next, after_take, finished, finished_of}
+use Rattle.pdn_gmw.specs.Pairs.{joined, AreParts, ArePair, inputs_of, world_of, section_of_pair, run_of}
 use Rattle.pdn_gmw.proofs.Outputs.{run_law}
 use Rattle.pdn_gmw.proofs.RoundLaws.{depth_law}
 use Rattle.pdn_gmw.proofs.Picking.{rounds_long}

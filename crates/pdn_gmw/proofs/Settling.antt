@@ -1,9 +1,9 @@
 -- The shares of one depth come of those below it.
-use Rattle.std.proofs.Common.{◌≡◌, ◌⊎◌, inl, inr, ℕ, zero, suc, ◌+◌, ◌<◌, ◌≤◌, Bool, true, false, cond, eqb, ◌&&◌, List, [], ◌∷◌, length, get_or, set, map, take, refl, sym, ap, ◌∙◌, subst, ⊎_elim, arith, get_or-set_same, get_or-set_other}
-use Rattle.std.specs.Prelude.{slice_index, slice_index_or, slice_set}
+use Rattle.std.proofs.Common.{◌≡◌, ◌⊎◌, inl, inr, ℕ, zero, suc, ◌+◌, ◌<◌, ◌≤◌, Bool, true, false, eqb, ◌&&◌, List, [], ◌∷◌, length, get_or, set, map, take, refl, sym, ap, ◌∙◌, subst, ⊎_elim, arith, get_or-set_same, get_or-set_other}
+use Rattle.std.specs.Prelude.{slice_index}
 use Rattle.std.specs.List.{fold, filter, range_with_len, count_by}
 use Rattle.std.proofs.lemmas.Bool.{false≢true, cases_Bool, cases_eq, cond-true, cond-false, eqb-true}
-use Rattle.std.proofs.lemmas.Bool.Decides.{eqb_tells, leb_tells}
+use Rattle.std.proofs.lemmas.Bool.Decides.{eqb_tells}
 use Rattle.std.proofs.lemmas.List.{length-set}
 use Rattle.std.proofs.lemmas.List.Folds.{fold-map}
 use Rattle.std.proofs.lemmas.List.FromFn.{get_or-map-range_with_len}
@@ -12,16 +12,15 @@ use Rattle.pdn_base.specs.Words.{◌⊕◌}
 use Rattle.pdn_circuit.specs.declared.gate.Gate.{Gate}
 use Rattle.pdn_circuit.specs.declared.gate.Gate.TheVariants.{Input, Given, Const, Xor, And, Spread, Move}
 use Rattle.pdn_circuit.specs.Gates.{InOrder, NamesBelow, is_input}
-use Rattle.pdn_circuit.specs.Depths.{IsAfter, InRounds, gate_depth, and_rounds, depths_of}
+use Rattle.pdn_circuit.specs.Depths.{IsAfter, gate_depth, and_rounds, depths_of}
 use Rattle.pdn_circuit.proofs.DepthLaws.{depths_in_rounds}
 use Rattle.pdn_circuit.proofs.DepthMeaning.{depth_here}
 use Rattle.pdn_dealer.specs.declared.parts.Triple.{Triple}
-use Rattle.pdn_dealer.specs.Sections.{no_triple}
 use Rattle.pdn_circuit.specs.Gates.{is_and}
 use Rattle.pdn_gmw.specs.Shares.{Masked, GateView}
 use Rattle.pdn_gmw.specs.Halves.{HalfWords, triple_at, heard_at, half_product, share_from, half_walk}
-use Rattle.pdn_gmw.specs.Layers.{LayerAnd, is_linear, first_of, second_of, gate_at, number_of_and, and_of, is_layer_and, is_layer_rest, layer_of}
-use Rattle.pdn_gmw.specs.Known.{HeldWords, held, no_view, view_at, own_triple, received, leaf_share, leaf_at, and_share, and_settled, linear_share, linear_settled, KnownTo}
+use Rattle.pdn_gmw.specs.Layers.{is_linear, first_of, second_of, gate_at, number_of_and, and_of, is_layer_and, is_layer_rest, layer_of}
+use Rattle.pdn_gmw.specs.Known.{HeldWords, held, no_view, view_at, own_triple, received, leaf_share, leaf_at, and_share, and_put, linear_share, linear_settled, KnownTo}
 use Rattle.pdn_gmw.proofs.Progress.{share_at}
 use Rattle.pdn_gmw.proofs.RoundLaws.{upto, shares_settled}
 
@@ -44,7 +43,7 @@ passed : (R : ℕ → Type 0) (p : ℕ → Bool) (a j : ℕ) → p a ≡ false �
 passed R p a j t (inl r) = inl r
 passed R p a j t (inr q) = inr (q.0, le_apart j a q.1 (λ e. absurd (false≢true (sym t ∙ sym (ap p e) ∙ q.0))))
 
-all_written : (len : ℕ) (R : ℕ → Type 0) (p : ℕ → Bool) (whole : List ℕ) (value : List ℕ → ℕ → ℕ)
+pub all_written : (len : ℕ) (R : ℕ → Type 0) (p : ℕ → Bool) (whole : List ℕ) (value : List ℕ → ℕ → ℕ)
     → ((a : ℕ) (s : List ℕ) → a < len → p a ≡ true → Good len R p whole a s → value s a ≡ get_or whole a 0)
     → (n a b : ℕ) (s : List ℕ) → a + n ≡ b → b ≤ len → length s ≡ len → Good len R p whole a s → Good len R p whole b (fold (written value) s (filter p (range_with_len a n)))
 all_written len R p whole value right zero a b s e m l g = subst (λ (i : ℕ). Good len R p whole i s) (omega arith) g
@@ -123,23 +122,23 @@ after_and gates o a t l p =
 
 -- the And gates of depth t + 1, where the shares up to depth t are there
 pub ands_settled : (hw : HeldWords) (views : List GateView) (gates : List Gate) (t : ℕ) (s : List ℕ) → InOrder gates → length s ≡ length gates → KnownTo (held hw views) (map received views) gates t s
-    → Good (length gates) (λ j. slice_index (depths_of gates) j ≤ t) (is_layer_and gates (t + 1)) (half_walk (held hw views) (map received views) gates).shares (length gates) (fold (and_settled hw.site views) s (layer_of gates (t + 1)).ands)
+    → Good (length gates) (λ j. slice_index (depths_of gates) j ≤ t) (is_layer_and gates (t + 1)) (half_walk (held hw views) (map received views) gates).shares (length gates) (fold (and_put hw.site views s) s (layer_of gates (t + 1)).ands)
 ands_settled hw views gates t s o l known =
     let R : ℕ → Type 0 = λ j. slice_index (depths_of gates) j ≤ t in
     let p : ℕ → Bool = is_layer_and gates (t + 1) in
     let whole : List ℕ = (half_walk (held hw views) (map received views) gates).shares in
-    let value : List ℕ → ℕ → ℕ = λ u k. and_share hw.site views u (and_of gates k) in
+    let value : List ℕ → ℕ → ℕ = λ u k. and_share hw.site views s (and_of gates k) in
     let right : (a : ℕ) (u : List ℕ) → a < length gates → p a ≡ true → Good (length gates) R p whole a u → value u a ≡ get_or whole a 0
     = λ a u m q good.
     let g : Gate = gate_at gates a in
     let is = layer_and gates (t + 1) a q in
     let after = after_and gates o a t m q in
-    and_right hw views gates u a (first_of g) (second_of g) (count_by is_input (take a gates)) (number_of_and gates a) whole
-    (good (first_of g) (omega (arith, after.0)) (inl after.2)) (good (second_of g) (omega (arith, after.1)) (inl after.3))
+    and_right hw views gates s a (first_of g) (second_of g) (count_by is_input (take a gates)) (number_of_and gates a) whole
+    (known (first_of g) (omega (arith, after.0)) after.2) (known (second_of g) (omega (arith, after.1)) after.3)
     ∙ ap (share_from (held hw views) (map received views) whole (count_by is_input (take a gates)) (number_of_and gates a)) (sym (and_gate g is.0))
     ∙ sym (share_at (held hw views) (map received views) gates a (Const 0) o m) in
     let begun : Good (length gates) R p whole 0 s = λ j m q. ⊎_elim (λ r. known j m r) (λ n. absurd (omega (arith, n.1))) q in
-    subst (Good (length gates) R p whole (length gates)) (sym (fold-map (and_settled hw.site views) (and_of gates) s (filter p (range_with_len 0 (length gates)))))
+    subst (Good (length gates) R p whole (length gates)) (sym (fold-map (and_put hw.site views s) (and_of gates) s (filter p (range_with_len 0 (length gates)))))
     (all_written (length gates) R p whole value right (length gates) 0 (length gates) s (omega arith) (omega arith) l begun)
 
 -- ---- the other gates
@@ -199,12 +198,12 @@ pub known_later : (h : HalfWords) (heard next : List Masked) (gates : List Gate)
     → KnownTo h heard gates t s → KnownTo h next gates t s
 known_later h heard next gates t s o u known = λ j l d. known j l d ∙ shares_settled t h gates (depths_of gates) heard next (depths_in_rounds gates o) u j d
 
-pub known_more : (hw : HeldWords) (views : List GateView) (gates : List Gate) (t : ℕ) (s : List ℕ) → InOrder gates → length s ≡ length gates → length (fold (and_settled hw.site views) s (layer_of gates (t + 1)).ands) ≡ length gates
+pub known_more : (hw : HeldWords) (views : List GateView) (gates : List Gate) (t : ℕ) (s : List ℕ) → InOrder gates → length s ≡ length gates → length (fold (and_put hw.site views s) s (layer_of gates (t + 1)).ands) ≡ length gates
     → KnownTo (held hw views) (map received views) gates t s
-    → KnownTo (held hw views) (map received views) gates (t + 1) (fold (linear_settled gates) (fold (and_settled hw.site views) s (layer_of gates (t + 1)).ands) (layer_of gates (t + 1)).rest)
+    → KnownTo (held hw views) (map received views) gates (t + 1) (fold (linear_settled gates) (fold (and_put hw.site views s) s (layer_of gates (t + 1)).ands) (layer_of gates (t + 1)).rest)
 known_more hw views gates t s o l long known =
     let good = ands_settled hw views gates t s o l known in
-    rest_settled (held hw views) (map received views) gates (t + 1) (fold (and_settled hw.site views) s (layer_of gates (t + 1)).ands) o long
+    rest_settled (held hw views) (map received views) gates (t + 1) (fold (and_put hw.site views s) s (layer_of gates (t + 1)).ands) o long
     (λ j m b. ⊎_elim
     (λ x. good j m (inl (omega arith)))
     (λ e.

@@ -1,6 +1,6 @@
 -- One depth of a half: what it reads is there, its frame, and what comes of the one that comes in.
-use Rattle.std.proofs.Common.{◌≡◌, ℕ, zero, suc, ◌+◌, ◌*◌, ◌<◌, ◌≤◌, Bool, true, false, not, List, [], ◌∷◌, ◌++◌, length, get_or, set, map, take, replicate, refl, sym, ap, ◌∙◌, subst, ⊎_elim, arith, length-append, All}
-use Rattle.std.specs.Prelude.{slice_index, slice_index_or, slice_set}
+use Rattle.std.proofs.Common.{◌≡◌, ℕ, zero, suc, ◌+◌, ◌*◌, ◌<◌, ◌≤◌, Bool, true, not, List, [], ◌∷◌, ◌++◌, length, get_or, set, map, take, replicate, refl, sym, ap, ◌∙◌, subst, ⊎_elim, arith, All}
+use Rattle.std.specs.Prelude.{slice_index, slice_index_or}
 use Rattle.std.specs.List.{fold, filter, flat_map, range_with_len}
 use lib.Lanes.{zip2}
 use Rattle.std.proofs.lemmas.Bool.Decides.{leb_tells}
@@ -13,8 +13,8 @@ use Rattle.pdn_base.specs.declared.site.Site.{Site}
 use Rattle.pdn_circuit.specs.declared.gate.Gate.{Gate}
 use Rattle.pdn_gmw.specs.declared.stage.Stage.{Stage}
 use Rattle.pdn_gmw.specs.declared.stage.Stage.TheVariants.{Ready}
-use Rattle.pdn_circuit.specs.declared.gate.Gate.TheVariants.{Const, And}
-use Rattle.pdn_circuit.specs.Gates.{Net, InOrder, IsCircuit, NamesBelow, ands}
+use Rattle.pdn_circuit.specs.declared.gate.Gate.TheVariants.{Const}
+use Rattle.pdn_circuit.specs.Gates.{Net, InOrder, IsCircuit, NamesBelow}
 use Rattle.pdn_circuit.specs.Depths.{and_rounds, depths_of}
 use Rattle.pdn_circuit.proofs.Reading.{counts_on}
 use Rattle.pdn_dealer.specs.declared.parts.Triple.{Triple}
@@ -22,22 +22,22 @@ use Rattle.pdn_dealer.specs.Sections.{five_count, PartWords}
 use Rattle.pdn_circuit.specs.Gates.{is_and}
 use Rattle.pdn_dealer.proofs.SectionWords.{length-ands}
 use Rattle.pdn_gmw.specs.Shares.{Masked, GateView, blank, gate_view, UnitWords, r_words, other_site}
-use Rattle.pdn_gmw.specs.Halves.{HalfWords, triple_at, masked_from, half_walk, half_view, half_outputs}
-use Rattle.pdn_gmw.specs.Rounds.{pick, put}
-use Rattle.pdn_gmw.specs.Layers.{LayerAnd, LayerWords, no_layer, first_of, second_of, gate_at, number_of_and, and_of, is_layer_and, is_layer_rest, layer_of, AreLayers}
-use Rattle.pdn_gmw.specs.Known.{HeldWords, held, no_view, view_at, own_triple, received, unheard, AndThere, AndsThere, and_sends, heard_by, and_share, and_settled, linear_settled, KnownTo}
-use Rattle.pdn_gmw.specs.Steps.{HalfState, half_words, begun, after_take, Fits, frame_count, rounds_of, masked_words, masked_of, frame_words, shares_out, FinishedHalf, finished_of}
+use Rattle.pdn_gmw.specs.Halves.{HalfWords, triple_at, half_walk, half_view, half_outputs}
+use Rattle.pdn_gmw.specs.Rounds.{put}
+use Rattle.pdn_gmw.specs.Layers.{LayerAnd, LayerWords, no_layer, first_of, second_of, gate_at, number_of_and, and_of, is_layer_and, is_layer_rest, layer_of, AreByDepth}
+use Rattle.pdn_gmw.specs.Known.{HeldWords, held, no_view, view_at, own_triple, received, unheard, AndThere, AndsThere, and_sends, heard_by, and_share, and_put, linear_share, linear_settled, KnownTo}
+use Rattle.pdn_gmw.specs.Steps.{HalfState, half_words, begun, after_take, frame_count, rounds_of, masked_words, masked_of, frame_words, shares_out, FinishedHalf, finished_of}
 use Rattle.pdn_gmw.proofs.Progress.{length-sent_words, sent_at}
 use Rattle.pdn_gmw.proofs.RoundLaws.{upto, put_later}
 use Rattle.pdn_gmw.proofs.Hearing.{hears}
 use Rattle.pdn_gmw.proofs.Settling.{layer_and, and_gate, after_and, map_at, known_later, known_more}
-use Rattle.pdn_gmw.proofs.Picking.{numbers, read_at, picked, laid, put_laid}
+use Rattle.pdn_gmw.proofs.Picking.{read_at, picked, laid, put_laid}
 
 -- ---- the gates of a layer
 range_within : (n : ℕ) → All (λ k. k < n) (range_with_len 0 n)
 range_within n = λ i d l. let m = length-range_with_len 0 n in omega (arith, get_or-range_with_len 0 n i d (omega (arith, m)))
 
-layer_within : (p : ℕ → Bool) (n : ℕ) → All (λ k. k < n) (filter p (range_with_len 0 n))
+pub layer_within : (p : ℕ → Bool) (n : ℕ) → All (λ k. k < n) (filter p (range_with_len 0 n))
 layer_within p n = All-filter p (λ k. k < n) (range_with_len 0 n) (range_within n)
 
 few_kept : (p : ℕ → Bool) (n : ℕ) → length (filter p (range_with_len 0 n)) ≤ n
@@ -66,15 +66,6 @@ ands_there net d views shares is v s m other l =
     subst (λ (x : ℕ). AndThere views x (slice_index_or (layer_of gates d).ands m other)) (sym s)
     (subst (AndThere views (length gates)) (sym (get_or-map (and_of gates) ks m 0 other n))
     (and_there net d (get_or ks m 0) views is v (layer_within (is_layer_and gates d) (length gates) m 0 n) (filter_passes (is_layer_and gates d) (range_with_len 0 (length gates)) m 0 n)))
-
-pub default_at : (layers : List LayerWords) (d : ℕ) (o : LayerWords) → d < length layers → slice_index_or layers d o ≡ slice_index_or layers d no_layer
-default_at [] d o l = absurd (omega arith)
-default_at (x ∷ xs) zero o l = refl
-default_at (x ∷ xs) (suc d) o l = default_at xs d o (omega arith)
-
--- a layer as it is read in code
-pub layer_read : (net : Net) (layers : List LayerWords) (d : ℕ) (layer : LayerWords) → AreLayers net layers → d ≤ frame_count net → layer ≡ slice_index_or layers d layer → layer ≡ layer_of net.gates d
-layer_read net layers d layer are b e = e ∙ default_at layers d layer (omega (arith, are.long)) ∙ are.at d b
 
 -- ---- the frame that goes out
 frames_same : (f : ℕ → Masked) (h : ℕ → LayerAnd) (send : LayerAnd → Masked) (n : ℕ → ℕ) (ks : List ℕ) → ((i : ℕ) (d : ℕ) → i < length ks → f (n (get_or ks i d)) ≡ send (h (get_or ks i d)))
@@ -155,14 +146,18 @@ length-heard_by (s ∷ ss) [] views = refl
 length-heard_by (s ∷ ss) (d ∷ []) views = refl
 length-heard_by (s ∷ ss) (d ∷ e ∷ frame) views = length-heard_by ss frame (set views s.number (hears (view_at views s.number) d e)) ∙ length-set views s.number (hears (view_at views s.number) d e)
 
-pub length-ands_settled : (site : Site) (views : List GateView) (ss : List LayerAnd) (shares : List ℕ) → length (fold (and_settled site views) shares ss) ≡ length shares
-length-ands_settled site views [] shares = refl
-length-ands_settled site views (s ∷ ss) shares = length-ands_settled site views ss (and_settled site views shares s) ∙ length-set shares s.gate (and_share site views shares s)
+pub length-ands_put : (site : Site) (views : List GateView) (before : List ℕ) (ss : List LayerAnd) (shares : List ℕ) → length (fold (and_put site views before) shares ss) ≡ length shares
+length-ands_put site views before [] shares = refl
+length-ands_put site views before (s ∷ ss) shares = length-ands_put site views before ss (and_put site views before shares s) ∙ length-set shares s.gate (and_share site views before s)
+
+pub length-linear_settled : (gates : List Gate) (shares rest : List ℕ) → length (fold (linear_settled gates) shares rest) ≡ length shares
+length-linear_settled gates shares [] = refl
+length-linear_settled gates shares (k ∷ rest) = length-linear_settled gates (linear_settled gates shares k) rest ∙ length-set shares k (linear_share shares (gate_at gates k))
 
 -- all shares up to the next depth
 pub known_next : (hw : HeldWords) (views next : List GateView) (net : Net) (t : ℕ) (frame shares after : List ℕ) → IsCircuit net → length views ≡ five_count net → length shares ≡ length net.gates → length after ≡ length net.gates
     → KnownTo (held hw views) (map received views) net.gates t shares → next ≡ heard_by (layer_of net.gates (t + 1)).ands frame views
-    → after ≡ fold (and_settled hw.site next) shares (layer_of net.gates (t + 1)).ands
+    → after ≡ fold (and_put hw.site next shares) shares (layer_of net.gates (t + 1)).ands
     → KnownTo (held hw next) (map received next) net.gates (t + 1) (fold (linear_settled net.gates) after (layer_of net.gates (t + 1)).rest)
 known_next hw views next net t frame shares after is lv ls la known en ea =
     let gates : List Gate = net.gates in
@@ -196,7 +191,7 @@ past_layers [] d l = refl
 past_layers (x ∷ xs) zero l = absurd (omega arith)
 past_layers (x ∷ xs) (suc d) l = past_layers xs d (omega arith)
 
-pub layers_small : (net : Net) (layers : List LayerWords) → IsCircuit net → AreLayers net layers → (d : ℕ) → length (slice_index_or layers d no_layer).ands ≤ 16777216
+pub layers_small : (net : Net) (layers : List LayerWords) → IsCircuit net → AreByDepth net layers → (d : ℕ) → length (slice_index_or layers d no_layer).ands ≤ 16777216
 layers_small net layers is are d =
     let few = is.few_gates in
     ⊎_elim

@@ -1,5 +1,5 @@
 -- What a borrowed step gives, and what it leaves.
-use Rattle.std.specs.Prelude.{◌≡◌, ℕ, length, ⊤}
+use Rattle.std.specs.Prelude.{◌≡◌, length, ⊤}
 use Rattle.std.specs.Borrow.{MutBor, Fml, follows_so}
 use mathlib.Core.Option.{none}
 use Rattle.pdn_gmw.specs.declared.stage.Stage.TheVariants.{Sent, Wanting, Over}

@@ -1,5 +1,5 @@
 -- One half: what it computes and sends, from its own words, its part and the words that it received.
-use Rattle.std.specs.Prelude.{◌<◌, ◌≤◌, ◌+◌, ◌≡◌, ℕ, List, [], ◌∷◌, ◌++◌, length, take, map, slice_index, slice_index_or, cond}
+use Rattle.std.specs.Prelude.{◌<◌, ◌≤◌, ◌+◌, ◌≡◌, ℕ, List, [], ◌∷◌, ◌++◌, length, map, slice_index, slice_index_or, cond}
 use Rattle.std.specs.List.{fold}
 use lib.Lanes.{zip2}
 use Rattle.pdn_base.specs.Words.{◌⊕◌, ◌⊗◌, spread, moved, xor_lists}

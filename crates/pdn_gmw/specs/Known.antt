@@ -1,5 +1,5 @@
 -- What a half has at hand, and how the shares of one depth come of those below it.
-use Rattle.std.specs.Prelude.{◌≡◌, ℕ, ◌+◌, ◌*◌, ◌<◌, ◌≤◌, ◌⊎◌, true, List, [], ◌∷◌, length, take, map, slice_index, slice_index_or, slice_set}
+use Rattle.std.specs.Prelude.{◌≡◌, ℕ, ◌<◌, ◌≤◌, true, List, [], ◌∷◌, length, take, map, slice_index, slice_index_or, slice_set}
 use Rattle.std.specs.List.{fold, count_by, range_with_len}
 use Rattle.pdn_base.specs.declared.site.Site.{Site}
 use Rattle.pdn_base.specs.Words.{◌⊕◌, spread, moved}
@@ -9,9 +9,9 @@ use Rattle.pdn_circuit.specs.Gates.{Net, is_input, input_count, given_count}
 use Rattle.pdn_circuit.specs.Depths.{depths_of}
 use Rattle.pdn_dealer.specs.declared.parts.Triple.{Triple}
 use Rattle.pdn_dealer.specs.Sections.{r_count}
-use Rattle.pdn_gmw.specs.Shares.{Masked, GateView}
+use Rattle.pdn_gmw.specs.Shares.{Masked, GateView, r_here}
 use Rattle.pdn_gmw.specs.Halves.{HalfWords, half_input, half_const, half_product, half_walk, IsOwn}
-use Rattle.pdn_gmw.specs.Layers.{LayerAnd, gate_at}
+use Rattle.pdn_gmw.specs.Layers.{LayerAnd, Leaf, gate_at, layer_of}
 
 -- a half's words, all but the triples, which stand in its views
 pub record HeldWords : Type 0 where
@@ -62,6 +62,22 @@ CanLeaf h inputs (Move x from count to) = Unit {0}
 abbrev pub leaf_at : HeldWords → List Gate → ℕ → ℕ
 leaf_at h gates k = leaf_share h (count_by is_input (take k gates)) (gate_at gates k)
 
+-- a leaf's share goes to its place
+abbrev pub leaf_settled : HeldWords → List ℕ → Leaf → List ℕ
+leaf_settled h shares leaf = slice_set shares leaf.at (leaf_share h leaf.inputs leaf.gate)
+
+-- what is read at these leaves is there
+abbrev pub LeavesThere : HeldWords → ℕ → List Leaf → Type 0
+LeavesThere h len leaves = (m : ℕ) (other : Leaf) → m < length leaves
+    → ((slice_index_or leaves m other).at < len) × CanLeaf h (slice_index_or leaves m other).inputs (slice_index_or leaves m other).gate
+
+-- the word r of a leaf that is an Input gate of this site
+abbrev pub leaf_r : Site → List ℕ → Leaf → List ℕ
+leaf_r site r leaf = r_here site leaf.gate (slice_index r leaf.inputs)
+
+abbrev pub MasksThere : List ℕ → List Leaf → Type 0
+MasksThere r leaves = (m : ℕ) (other : Leaf) → m < length leaves → is_input (slice_index_or leaves m other).gate ≡ true → (slice_index_or leaves m other).inputs < length r
+
 pub record HasLeaves (net : Net) (h : HeldWords) : Type 0 where
   pub own : length h.own ≡ input_count h.site net.gates
   pub given : length h.given ≡ given_count net.gates
@@ -92,8 +108,19 @@ and_share site views shares s =
     let mine = and_sends views shares s in
     half_product site (own_triple v) (mine.d ⊕ v.d) (mine.e ⊕ v.e)
 
-abbrev pub and_settled : Site → List GateView → List ℕ → LayerAnd → List ℕ
-and_settled site views shares s = slice_set shares s.gate (and_share site views shares s)
+-- the same put in its place, where the operands' shares are these
+abbrev pub and_put : Site → List GateView → List ℕ → List ℕ → LayerAnd → List ℕ
+and_put site views before shares s = slice_set shares s.gate (and_share site views before s)
+
+-- the shares of And gates, from both frames and the triples of the views
+abbrev pub settled_by : Site → List GateView → List LayerAnd → List ℕ → List ℕ → List ℕ → List ℕ
+settled_by site views [] sent heard shares = shares
+settled_by site views (s ∷ ss) [] heard shares = shares
+settled_by site views (s ∷ ss) (d ∷ []) heard shares = shares
+settled_by site views (s ∷ ss) (d ∷ e ∷ sent) [] shares = shares
+settled_by site views (s ∷ ss) (d ∷ e ∷ sent) (d' ∷ []) shares = shares
+settled_by site views (s ∷ ss) (d ∷ e ∷ sent) (d' ∷ e' ∷ heard) shares =
+    settled_by site views ss sent heard (slice_set shares s.gate (half_product site (own_triple (view_at views s.number)) (d ⊕ d') (e ⊕ e')))
 
 -- ---- gates whose shares come of shares alone
 abbrev pub linear_share : List ℕ → Gate → ℕ
@@ -107,6 +134,10 @@ linear_share shares (And x y) = 0
 
 abbrev pub linear_settled : List Gate → List ℕ → ℕ → List ℕ
 linear_settled gates shares k = slice_set shares k (linear_share shares (gate_at gates k))
+
+-- the shares of depth 0, and zero at the others
+abbrev pub first_shares : HeldWords → List Gate → List ℕ
+first_shares h gates = fold (linear_settled gates) (map (leaf_at h gates) (range_with_len 0 (length gates))) (layer_of gates 0).rest
 
 -- ---- the shares of all gates up to a depth are there
 abbrev pub KnownTo : HalfWords → List Masked → List Gate → ℕ → List ℕ → Type 0

@@ -1,12 +1,13 @@
 -- The gates by depth, as a half keeps them.
 pub use Rattle.pdn_gmw.specs.declared.layers.LayerAnd.{LayerAnd}
+pub use Rattle.pdn_gmw.specs.declared.layers.Leaf.{Leaf}
 use Rattle.std.specs.Prelude.{◌≡◌, ℕ, ◌+◌, ◌≤◌, Bool, true, false, ◌&&◌, eqb, List, [], ◌∷◌, ◌++◌, cond, length, take, map, slice_index, slice_index_or}
-use Rattle.std.specs.List.{filter, range_with_len}
+use Rattle.std.specs.List.{filter, range_with_len, count_by}
 use Rattle.pdn_circuit.specs.declared.gate.Gate.{Gate}
 use Rattle.pdn_circuit.specs.declared.gate.Gate.TheVariants.{Input, Given, Const, Xor, And, Spread, Move}
 use Rattle.pdn_circuit.specs.Gates.{Net, ands}
 use Rattle.pdn_circuit.specs.Depths.{depths_of}
-use Rattle.pdn_circuit.specs.Gates.{is_and}
+use Rattle.pdn_circuit.specs.Gates.{is_and, is_input}
 use Rattle.pdn_gmw.specs.Steps.{frame_count}
 
 -- the gates whose shares come of shares alone
@@ -78,6 +79,42 @@ layer_more layer k number gate = record {
 }
 
 -- a layer for each depth
-pub record AreLayers (net : Net) (layers : List LayerWords) : Type 0 where
+pub record AreByDepth (net : Net) (layers : List LayerWords) : Type 0 where
   pub long : length layers ≡ frame_count net + 1
   pub at : (d : ℕ) → d ≤ frame_count net → slice_index_or layers d no_layer ≡ layer_of net.gates d
+
+-- ---- the gates that read no other
+abbrev pub is_leaf : Gate → Bool
+is_leaf (Input site index) = true
+is_leaf (Given index) = true
+is_leaf (Const word) = true
+is_leaf (Xor a b) = false
+is_leaf (And a b) = false
+is_leaf (Spread a lane) = false
+is_leaf (Move a from count to) = false
+
+abbrev pub leaf_of : List Gate → ℕ → Leaf
+leaf_of gates k = record { at = k; inputs = count_by is_input (take k gates); gate = gate_at gates k }
+
+abbrev pub is_leaf_at : List Gate → ℕ → Bool
+is_leaf_at gates k = is_leaf (gate_at gates k)
+
+-- those among the first n gates, in gate order
+abbrev pub leaves_to : List Gate → ℕ → List Leaf
+leaves_to gates n = map (leaf_of gates) (filter (is_leaf_at gates) (range_with_len 0 n))
+
+abbrev pub leaves_of : List Gate → List Leaf
+leaves_of gates = leaves_to gates (length gates)
+
+-- what a gate, before which so many Input gates stand, adds to them
+abbrev pub leaf_here : ℕ → ℕ → Gate → List Leaf
+leaf_here k inputs gate = cond (is_leaf gate) (record { at = k; inputs = inputs; gate = gate } ∷ []) []
+
+-- ---- the order in which a circuit is run
+pub record LayersWords : Type 0 where
+  pub leaves : List Leaf
+  pub list : List LayerWords
+
+pub record AreLayers (net : Net) (layers : LayersWords) : Type 0 where
+  pub leaves : layers.leaves ≡ leaves_of net.gates
+  pub list : AreByDepth net layers.list

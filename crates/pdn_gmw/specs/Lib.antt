@@ -5,6 +5,7 @@ pub mod Steps
 pub mod Given
 pub mod Layers
 pub mod Known
+pub mod Schedules
 pub mod Places
 pub mod Pairs
 pub mod SmallRun

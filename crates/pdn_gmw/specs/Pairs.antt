@@ -1,8 +1,7 @@
 -- Two halves of one section, and their run.
-use Rattle.std.specs.Prelude.{◌≡◌, ℕ, List, length, map}
+use Rattle.std.specs.Prelude.{◌≡◌, length}
 use lib.Lanes.{zip2}
 use Rattle.pdn_base.specs.Words.{xor_lists}
-use Rattle.pdn_base.specs.declared.site.Site.{Site}
 use Rattle.pdn_base.specs.declared.site.Site.TheVariants.{A, B}
 use Rattle.pdn_circuit.specs.Gates.{InputWords}
 use Rattle.pdn_dealer.specs.declared.parts.Triple.{Triple}

@@ -1,13 +1,11 @@
 -- A half as it goes: what it holds, what its next step gives, and what it holds after each call.
-use Rattle.std.specs.Prelude.{◌≡◌, ℕ, zero, suc, ◌+◌, max, Bool, cond, map, nat_lt, List, [], ◌∷◌, length, replicate, Result, Ok, Err, slice_index}
+use Rattle.std.specs.Prelude.{◌≡◌, ℕ, ◌+◌, max, Bool, cond, map, nat_lt, List, [], ◌∷◌, length, replicate, Result, Ok, Err, slice_index}
 use Rattle.std.specs.List.{fold, flat_map}
 use Rattle.pdn_base.specs.Words.{◌⊕◌, xor_lists}
 use Rattle.pdn_base.specs.declared.site.Site.{Site}
-use Rattle.pdn_base.specs.declared.site.Site.TheVariants.{A, B}
-use Rattle.pdn_circuit.specs.Gates.{Net, InputWords, input_count, given_count, output_words}
+use Rattle.pdn_circuit.specs.Gates.{Net, input_count, given_count}
 use Rattle.pdn_circuit.specs.Depths.{and_rounds, depths_of}
-use Rattle.pdn_dealer.specs.declared.parts.Triple.{Triple}
-use Rattle.pdn_dealer.specs.Sections.{Five, Layout, PartWords, part_of, Covers, r_count, five_count, mask_count}
+use Rattle.pdn_dealer.specs.Sections.{PartWords, r_count, five_count, mask_count}
 use Rattle.pdn_gmw.specs.declared.stage.Stage.{Stage}
 use Rattle.pdn_gmw.specs.declared.stage.Stage.TheVariants.{Ready, Sent, Wanting, Over}
 use Rattle.pdn_gmw.specs.declared.step.FrameErr.{FrameErr}

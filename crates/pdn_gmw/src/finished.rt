@@ -1,5 +1,6 @@
 //! What a half finished with.
 ghost use Rattle.std.specs.Prelude.{◌≡◌, length, []};
+ghost use Rattle.std.specs.Arc.{arc_value};
 ghost use Rattle.pdn_gmw.specs.Known.{held};
 ghost use Rattle.pdn_dealer.specs.Sections.{mask_count};
 ghost use Rattle.pdn_gmw.specs.Steps.{shares_out};
@@ -9,11 +10,12 @@ use crate::views::UnitView;
 use pdn_base::{Site, Word};
 use pdn_circuit::Circuit;
 use std::marker::Model;
+use std::sync::Arc;
 
 /// A half that has come to its end. It is made by `Half::finish` alone.
 #[derive(Drop)]
 pub struct Finished {
-    circuit: Circuit,
+    circuit: Arc<Circuit>,
     site: Site,
     own: Vec<Word>,
     given: Vec<Word>,
@@ -22,12 +24,13 @@ pub struct Finished {
 }
 
 impl Model for Finished {
+    ghost use Rattle.std.specs.Arc.{arc_value};
     ghost use Rattle.pdn_gmw.specs.Steps.{FinishedHalf};
 
     ghost Value = { FinishedHalf };
 
     ghost view = { λ f. record {
-      net = f.circuit;
+      net = arc_value f.circuit;
       site = f.site;
       own = f.own.items;
       given = f.given.items;
@@ -38,7 +41,7 @@ impl Model for Finished {
 
 impl Finished {
     pub(crate) fn of(
-        circuit: Circuit,
+        circuit: Arc<Circuit>,
         site: Site,
         own: Vec<Word>,
         given: Vec<Word>,
@@ -46,7 +49,7 @@ impl Finished {
         outputs: Vec<Word>,
     ) -> Finished
         ensures { result ≡ record {
-          net = circuit;
+          net = arc_value circuit;
           site = site;
           own = own.items;
           given = given.items;

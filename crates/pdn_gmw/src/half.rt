@@ -5,8 +5,8 @@ ghost use Rattle.std.specs.Borrow.{sem};
 use crate::finished::{Finished, write_outputs};
 use crate::holdings::Holdings;
 use crate::input_masks::r_words;
-use crate::layers::{Layer, layers_of};
-use crate::rounds::{settle_layer, share_rest, write_frame};
+use crate::rounds::{Exchange, settle_ands, share_rest, write_frame};
+use crate::schedule::Schedule;
 use crate::stage::Stage;
 use crate::step::{FrameErr, Step};
 use crate::views::{GateView, UnitView};
@@ -19,12 +19,11 @@ use std::marker::Model;
 /// One site's half of a circuit's run.
 #[derive(Drop)]
 pub struct Half {
-    circuit: Circuit,
+    schedule: Schedule,
     holdings: Holdings,
     own_r: Vec<Word>,
     other_r: Vec<Word>,
     views: Vec<GateView>,
-    layers: Vec<Layer>,
     shares: Vec<Word>,
     taken: usize,
     frame: Vec<Word>,
@@ -52,6 +51,8 @@ impl Half {
 
     /// A half of a circuit's run that has made no step. `own` are the site's input words, `given` its shares of
     /// the given words, and `part` its part of the section. All that the half will need is reserved here.
+    ///
+    /// It works out the circuit's schedule for itself: where both halves are run, `Half::on` does that once.
     pub fn new(
         alloc: Global,
         circuit: &Circuit,
@@ -63,14 +64,31 @@ impl Half {
         requires { Fits circuit.now (half_words site own.items given.items part) }
         ensures { IfOk result (λ h. h ≡ begun circuit.now (half_words site own.items given.items part)) }
     {
+        let schedule = Schedule::new(alloc, circuit)?;
+        Half::on(alloc, &schedule, site, own, given, part)
+    }
+
+    /// The same on a schedule that both halves read.
+    pub fn on(
+        alloc: Global,
+        schedule: &Schedule,
+        site: Site,
+        own: Vec<Word>,
+        given: Vec<Word>,
+        part: Part,
+    ) -> Result<Half, Memory>
+        requires { Fits schedule.now (half_words site own.items given.items part) }
+        ensures { IfOk result (λ h. h ≡ begun schedule.now (half_words site own.items given.items part)) }
+    {
         let Part { r, triples, masks } = part;
-        let own_r = r_words(alloc, circuit, site, r.as_slice())?;
-        let other_r = r_words(alloc, circuit, other(site), r.as_slice())?;
+        let circuit = schedule.circuit();
+        let leaves = schedule.leaves();
+        let own_r = r_words(alloc, leaves, site, r.as_slice())?;
+        let other_r = r_words(alloc, leaves, other(site), r.as_slice())?;
         let views = unheard(alloc, triples.as_slice())?;
-        let layers = layers_of(alloc, circuit)?;
         let zero = Word::from_u64(0);
         let outputs = vec![in alloc; zero; circuit.outputs.len()]?;
-        let frame = vec![in alloc; zero; 2 * most_ands(&layers)]?;
+        let frame = vec![in alloc; zero; 2 * schedule.most_ands()]?;
         let holdings = Holdings {
             site,
             own,
@@ -78,16 +96,14 @@ impl Half {
             r,
             masks,
         };
-        let mut shares = holdings.leaf_shares(alloc, circuit)?;
-        share_rest(circuit, layers[0].rest.as_slice(), shares.as_mut_slice());
-        let circuit = circuit.copy(alloc)?;
+        let shares = holdings.first_shares(alloc, schedule)?;
+        let schedule = schedule.share()?;
         Ok(Half {
-            circuit,
+            schedule,
             holdings,
             own_r,
             other_r,
             views,
-            layers,
             shares,
             taken: 0,
             frame,
@@ -105,7 +121,10 @@ impl Half {
     {
         self.turn();
         match self.stage {
-            Stage::Sent => Step::Send(&self.frame[..2 * self.layers[self.taken + 1].ands.len()]),
+            Stage::Sent => {
+                let layer = self.schedule.after(self.taken);
+                Step::Send(&self.frame[..2 * layer.ands.len()])
+            }
             Stage::Wanting => Step::Want(self.frame_len() as u32),
             Stage::Ready | Stage::Over => Step::Done,
         }
@@ -135,7 +154,7 @@ impl Half {
         ensures { result ≡ finished self }
     {
         let Half {
-            circuit,
+            schedule,
             holdings,
             own_r,
             other_r,
@@ -144,7 +163,12 @@ impl Half {
             mut outputs,
             ..
         } = self;
-        write_outputs(&circuit, &holdings, shares.as_slice(), &mut outputs);
+        write_outputs(
+            schedule.circuit(),
+            &holdings,
+            shares.as_slice(),
+            &mut outputs,
+        );
         let Holdings {
             site,
             own,
@@ -158,7 +182,7 @@ impl Half {
             gates: views,
             masks,
         };
-        Finished::of(circuit, site, own, given, view, outputs)
+        Finished::of(schedule.into_circuit(), site, own, given, view, outputs)
     }
 
     // How many frames each half sends.
@@ -167,7 +191,7 @@ impl Half {
         ensures fits { Fits self.now.net self.now.half }
         ensures circuit { IsCircuit self.now.net }
     {
-        self.layers.len() - 1
+        self.schedule.frames()
     }
 
     // How many words the frame of this round has, either way.
@@ -176,7 +200,8 @@ impl Half {
         ensures words { result ≡ length (next_frame self.now) }
         ensures few { result < 2 ^ 32 }
     {
-        2 * self.layers[self.taken + 1].ands.len()
+        let layer = self.schedule.after(self.taken);
+        2 * layer.ands.len()
     }
 
     // The step that the next one is, once it is found.
@@ -195,9 +220,10 @@ impl Half {
         requires { self.old.stage ≡ Ready }
         ensures { self.new ≡ after_next self.old }
     {
-        if self.taken + 1 < self.layers.len() {
+        if self.taken < self.schedule.frames() {
+            let layer = self.schedule.after(self.taken);
             write_frame(
-                self.layers[self.taken + 1].ands.as_slice(),
+                layer.ands.as_slice(),
                 self.views.as_slice(),
                 self.shares.as_slice(),
                 self.frame.as_mut_slice(),
@@ -214,12 +240,21 @@ impl Half {
         requires long { length frame.now ≡ length (next_frame self.old) }
         ensures { self.new ≡ after_take self.old frame.now }
     {
-        settle_layer(
-            &self.circuit,
+        let layer = self.schedule.after(self.taken);
+        let frames = Exchange {
+            sent: &self.frame[..2 * layer.ands.len()],
+            heard: frame,
+        };
+        settle_ands(
             self.holdings.site(),
-            &self.layers[self.taken + 1],
-            frame,
+            layer.ands.as_slice(),
+            frames,
             self.views.as_mut_slice(),
+            self.shares.as_mut_slice(),
+        );
+        share_rest(
+            self.schedule.circuit(),
+            layer.rest.as_slice(),
             self.shares.as_mut_slice(),
         );
         self.taken += 1;
@@ -230,8 +265,6 @@ impl Half {
 ghost use Rattle.pdn_base.specs.declared.site.Site.{Site};
 ghost use Rattle.pdn_gmw.specs.Shares.{other_site};
 ghost use Rattle.pdn_gmw.specs.Known.{unheard};
-ghost use Rattle.pdn_gmw.specs.Layers.{LayerWords, no_layer};
-ghost use Rattle.std.specs.Prelude.{slice_index_or};
 
 fn other(site: Site) -> Site
     ensures { result ≡ other_site site }
@@ -258,17 +291,4 @@ fn unheard(alloc: Global, triples: &[Triple]) -> Result<Vec<GateView>, Memory>
         })?;
     }
     Ok(views)
-}
-
-// As many And gates as a layer has, and no fewer than any other.
-fn most_ands(layers: &[Layer]) -> usize
-    requires { (d : ℕ) → length (slice_index_or layers.now d no_layer).ands < 2 ^ 31 }
-    ensures most { (d : ℕ) → length (slice_index_or layers.now d no_layer).ands ≤ result }
-    ensures few { result < 2 ^ 31 }
-{
-    let mut most = 0;
-    for layer in layers {
-        most = most.max(layer.ands.len());
-    }
-    most
 }

@@ -1,14 +1,15 @@
 //! What a half begins with, and its shares of the gates that read no other.
-ghost use Rattle.std.specs.Prelude.{◌≡◌, ◌<◌, ◌≤◌, ◌^◌, ℕ, IsTrue, true, length, map, slice_index, IfOk};
-ghost use Rattle.std.specs.List.{range_with_len};
-ghost use Rattle.pdn_circuit.specs.Gates.{is_input};
-ghost use Rattle.pdn_gmw.specs.Shares.{inputs_after};
+ghost use Rattle.std.specs.Prelude.{◌≡◌, ◌<◌, ◌≤◌, ◌^◌, ℕ, IsTrue, true, length, replicate, slice_index, IfOk};
+ghost use Rattle.std.specs.List.{fold};
 ghost use Rattle.pdn_gmw.specs.Halves.{half_input, half_const, IsOwn};
-ghost use Rattle.pdn_gmw.specs.Known.{leaf_share, CanLeaf, leaf_at, HasLeaves};
+ghost use Rattle.pdn_gmw.specs.Known.{leaf_share, CanLeaf, LeavesThere, leaf_settled, HasLeaves, first_shares};
 ghost use Rattle.pdn_gmw.specs.Steps.{covered};
 
+use crate::layers::Leaf;
+use crate::rounds::share_rest;
+use crate::schedule::Schedule;
 use pdn_base::{Memory, Site, Word};
-use pdn_circuit::{Circuit, Gate};
+use pdn_circuit::Gate;
 use std::alloc::Global;
 use std::marker::Model;
 
@@ -43,19 +44,28 @@ impl Holdings {
         self.site
     }
 
-    /// The shares of the Input, Given and Const gates in their places among all gates, and zero at the others.
-    pub fn leaf_shares(&self, alloc: Global, circuit: &Circuit) -> Result<Vec<Word>, Memory>
-        requires { HasLeaves circuit.now self.now }
-        ensures { IfOk result (λ shares. shares.items ≡ map (leaf_at self.now circuit.now.gates) (range_with_len 0 (length circuit.now.gates))) }
+    /// The shares of the gates of depth 0 in their places among all gates, and zero at the others.
+    pub fn first_shares(&self, alloc: Global, schedule: &Schedule) -> Result<Vec<Word>, Memory>
+        requires { HasLeaves schedule.now self.now }
+        ensures { IfOk result (λ shares. shares.items ≡ first_shares self.now schedule.now.gates) }
     {
-        let mut shares = Vec::with_capacity(alloc, circuit.gates.len())?;
-        let mut inputs = 0;
-        for gate in &circuit.gates {
-            let share = self.leaf_share(inputs, gate);
-            shares.push(share)?;
-            inputs = inputs_past(gate, inputs);
-        }
+        let circuit = schedule.circuit();
+        let first = schedule.first();
+        let mut shares = zeros(alloc, circuit.gates.len())?;
+        self.share_leaves(schedule.leaves(), shares.as_mut_slice());
+        share_rest(circuit, first.rest.as_slice(), shares.as_mut_slice());
         Ok(shares)
+    }
+
+    // Puts the shares of these gates in their places.
+    fn share_leaves(&self, leaves: &[Leaf], shares: &mut [Word])
+        requires { LeavesThere self.now (length shares.old) leaves.now }
+        ensures long { length shares.new ≡ length shares.old }
+        ensures shares { shares.new ≡ fold (leaf_settled self.now) shares.old leaves.now }
+    {
+        for leaf in leaves {
+            shares[leaf.at as usize] = self.leaf_share(leaf.inputs as usize, &leaf.gate);
+        }
     }
 
     // The share of such a gate, where so many Input gates stand before it.
@@ -108,13 +118,8 @@ impl Holdings {
     }
 }
 
-// How many Input gates there are with this one.
-fn inputs_past(gate: &Gate, inputs: usize) -> usize
-    requires { inputs < 2 ^ 63 }
-    ensures { result ≡ inputs_after inputs gate.now }
+fn zeros(alloc: Global, count: usize) -> Result<Vec<Word>, Memory>
+    ensures { IfOk result (λ words. words.items ≡ replicate count 0) }
 {
-    match gate {
-        Gate::Input { .. } => inputs + 1,
-        _ => inputs,
-    }
+    Ok(vec![in alloc; Word::from_u64(0); count]?)
 }

@@ -5,10 +5,10 @@ ghost use Rattle.pdn_circuit.specs.declared.gate.Gate.{Gate};
 ghost use Rattle.pdn_circuit.specs.Gates.{NamesBelow, LanesFit};
 ghost use Rattle.pdn_gmw.specs.Layers.{LayerAnd};
 ghost use Rattle.pdn_gmw.specs.Halves.{half_product};
-ghost use Rattle.pdn_gmw.specs.Known.{own_triple, AndThere, AndsThere, and_sends, heard_by, and_share, and_settled, linear_share, linear_settled};
+ghost use Rattle.pdn_gmw.specs.Known.{own_triple, AndThere, AndsThere, and_sends, heard_by, settled_by, linear_share, linear_settled};
 ghost use Rattle.pdn_gmw.specs.Steps.{masked_words};
 
-use crate::layers::{Layer, LayerAnd};
+use crate::layers::LayerAnd;
 use crate::masked::Masked;
 use crate::views::GateView;
 use pdn_base::{Site, Word};
@@ -40,68 +40,42 @@ fn sends(and: &LayerAnd, views: &[GateView], shares: &[Word]) -> Masked
     }
 }
 
-/// What came in for a depth goes to its views, and settles the shares of its And gates and then of its other gates.
-pub fn settle_layer(
-    circuit: &Circuit,
+/// The frames of one depth: the half's own, and the other side's.
+#[derive(Clone, Copy)]
+pub struct Exchange<'a> {
+    pub sent: &'a [Word],
+    pub heard: &'a [Word],
+}
+
+/// What was exchanged for a depth goes to its views, and settles the shares of its And gates.
+pub fn settle_ands(
     site: Site,
-    layer: &Layer,
-    frame: &[Word],
+    ands: &[LayerAnd],
+    frames: Exchange<'_>,
     views: &mut [GateView],
     shares: &mut [Word],
 )
-    requires ands { AndsThere layer.now.ands (length views.old) (length shares.old) }
-    requires rest { (m : ℕ) → m < length layer.now.rest → slice_index layer.now.rest m < length circuit.now.gates }
-    requires frame { length frame.now ≡ 2 * length layer.now.ands }
-    requires shares { length shares.old ≡ length circuit.now.gates }
+    requires there { AndsThere ands.now (length views.old) (length shares.old) }
+    requires sent { length frames.sent.now ≡ 2 * length ands.now }
+    requires heard { length frames.heard.now ≡ 2 * length ands.now }
     ensures long { length shares.new ≡ length shares.old }
-    ensures views { views.new ≡ heard_by layer.now.ands frame.now views.old }
-    ensures shares { shares.new ≡ fold (linear_settled circuit.now.gates) (fold (and_settled site views.new) shares.old layer.now.ands) layer.now.rest }
-{
-    let ands = layer.ands.as_slice();
-    hear(ands, frame, shares.len(), views);
-    share_ands(site, ands, views, shares);
-    share_rest(circuit, layer.rest.as_slice(), shares);
-}
-
-// Puts the words that came in for these And gates into the gates' views.
-fn hear(ands: &[LayerAnd], frame: &[Word], shares: usize, views: &mut [GateView])
-    requires there { AndsThere ands.now (length views.old) shares }
-    requires long { length frame.now ≡ 2 * length ands.now }
-    ensures long { length views.new ≡ length views.old }
-    ensures heard { views.new ≡ heard_by ands.now frame.now views.old }
+    ensures views { views.new ≡ heard_by ands.now frames.entry.heard.now views.old }
+    ensures shares { shares.new ≡ settled_by site views.old ands.now frames.entry.sent.now frames.entry.heard.now shares.old }
 {
     for k in 0..ands.len() {
-        let at = ands[k].number as usize;
-        let view = views[at];
-        views[at] = GateView {
-            d: frame[2 * k],
-            e: frame[2 * k + 1],
-            ..view
+        let and = ands[k];
+        let at = and.number as usize;
+        let old = views[at];
+        let view = GateView {
+            d: frames.heard[2 * k],
+            e: frames.heard[2 * k + 1],
+            ..old
         };
+        let d = frames.sent[2 * k].xor(&view.d);
+        let e = frames.sent[2 * k + 1].xor(&view.e);
+        views[at] = view;
+        shares[and.gate as usize] = product_share(site, &view, &d, &e);
     }
-}
-
-// Computes the shares of these And gates, for which the other side's words are there.
-fn share_ands(site: Site, ands: &[LayerAnd], views: &[GateView], shares: &mut [Word])
-    requires there { AndsThere ands.now (length views.now) (length shares.old) }
-    ensures long { length shares.new ≡ length shares.old }
-    ensures shares { shares.new ≡ fold (and_settled site views.now) shares.old ands.now }
-{
-    for k in 0..ands.len() {
-        let share = and_share(site, &ands[k], views, shares);
-        shares[ands[k].gate as usize] = share;
-    }
-}
-
-fn and_share(site: Site, and: &LayerAnd, views: &[GateView], shares: &[Word]) -> Word
-    requires { AndThere (length views.now) (length shares.now) and.now }
-    ensures { result ≡ and_share site views.now shares.now and.now }
-{
-    let mine = sends(and, views, shares);
-    let view = views[and.number as usize];
-    let d = mine.d.xor(&view.d);
-    let e = mine.e.xor(&view.e);
-    product_share(site, &view, &d, &e)
 }
 
 // A site's share of a product, where both operands are open under their masks: A alone adds their product.

@@ -159,7 +159,7 @@ pub fn word_planes(alloc: Global, planes: &[Plane], word: usize) -> Result<Vec<u
     requires { All (λ plane. word < length plane) planes.now }
     ensures { IfOk result (λ words. words.items ≡ word_planes word planes.now) }
 {
-    let mut words = Vec::new(alloc);
+    let mut words = Vec::with_capacity(alloc, planes.len())?;
     for plane in planes {
         words.push(plane.words[word])?;
     }
@@ -173,7 +173,7 @@ fn literal(alloc: Global, b: &Builder, number: u64, kind: Kind) -> Result<Vec<u3
     ensures memory { IfErr result (λ err. err ≡ BuildErr.Memory) }
 {
     let _gates = b.len();
-    let mut planes = Vec::new(alloc);
+    let mut planes = Vec::with_capacity(alloc, width(kind) as usize)?;
     for bit in 0..width(kind) {
         planes.push(((number >> bit) & 1) as u32)?;
     }

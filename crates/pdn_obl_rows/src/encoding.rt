@@ -24,12 +24,24 @@ pub fn encode(alloc: Global, rows: &Rows, kinds: &[Kind], len: u32) -> Result<Ve
     ensures count { IfOk result (λ words. length words.items ≡ (widths kinds.now + 1) * words_for len) }
     ensures back { IfOk result (λ words. valid_rows words.items (list_from 0 kinds.now len) ≡ rows.now) }
 {
-    let mut words = Vec::new(alloc);
+    let mut words = Vec::with_capacity(alloc, word_count(kinds, len)?)?;
     push_plane(&mut words, rows, &Lanes::Valid, len)?;
     for column in 0..kinds.len() {
         push_column(&mut words, rows, column, width_at(kinds, column), len)?;
     }
     Ok(words)
+}
+
+// The words of a list of `len` rows of these kinds. Memory where no list can have so many.
+fn word_count(kinds: &[Kind], len: u32) -> Result<usize, Memory>
+    ensures { IfOk result (λ count. count ≡ (widths kinds.now + 1) * words_for len) }
+{
+    let mut planes = 1usize;
+    for column in 0..kinds.len() {
+        let width = width_at(kinds, column) as usize;
+        planes = planes.checked_add(width).ok_or(Memory)?;
+    }
+    planes.checked_mul(words_for(len)).ok_or(Memory)
 }
 
 fn push_column(

@@ -1,5 +1,5 @@
-//! Plans, from a query on: how it is bound or refused, at which level each part of it is worked out, and what its
-//! operators give of rows in plain. Nothing but tests of public calls.
+//! Plans, from a query on: the tree to which it is bound, at which level each part of it is worked out, and what its
+//! operators give of rows in plain. Nothing but tests of public calls; what the top call tells of them stands in cases.
 #![tactic(auto)]
 
 #[cfg(test)]
@@ -10,5 +10,3 @@ mod levels;
 mod plain;
 #[cfg(test)]
 mod plans;
-#[cfg(test)]
-mod trees;

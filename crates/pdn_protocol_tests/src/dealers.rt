@@ -66,19 +66,6 @@ fn words_are_the_key_stream_of_chacha20(rt: HostRuntime) -> Result<(), Fail> {
 }
 
 #[test]
-fn the_next_unit_begins_elsewhere(rt: HostRuntime) -> Result<(), Fail> {
-    let deal = ChaChaDeal::new([0; 32]);
-    let this = deal.section(rt.alloc(), 0, 0, 600)?;
-    let next = deal.section(rt.alloc(), 0, 1, 1)?;
-    for word in next.words() {
-        for other in this.words() {
-            assert!(rt; word != other);
-        }
-    }
-    Ok(())
-}
-
-#[test]
 fn given_words_end_in_zero(rt: HostRuntime) -> Result<(), Fail> {
     let mut words = Vec::new(rt.alloc());
     words.push(Word::from_u64(5))?;

@@ -5,74 +5,21 @@ ghost use Rattle.pdn_base.specs.declared.site.Site.TheVariants.{A, B};
 ghost use Rattle.pdn_circuit.specs.Gates.{input_count, given_count};
 ghost use Rattle.pdn_gmw.specs.Pairs.{ArePair};
 
+use crate::runs::{SECTION, deal_words, halves, one_and, words};
 use pdn_base::{Memory, Site, Word};
 use pdn_circuit::{Builder, Circuit};
-use pdn_dealer::{ChaChaDeal, Deal, ListDeal, section_len};
+use pdn_dealer::{ChaChaDeal, Deal, ListDeal};
 use pdn_gmw::{FrameErr, Half, Step, UnitView, run_pair};
 use std::alloc::Global;
 use std::test::Fail;
 
-fn words(alloc: Global, numbers: &[u64]) -> Result<Vec<Word>, Memory>
-    ensures { IfOk result (λ words. words.items ≡ numbers.now) }
-{
-    let words = numbers.iter().map(|n| Word::from_u64(*n)).collect(alloc)?;
-    Ok(words)
-}
-
-fn deal_words(alloc: Global, numbers: &[u64]) -> Result<ListDeal, Fail> {
-    let mut entries = Vec::new(alloc);
-    entries.push((0, 0, words(alloc, numbers)?))?;
-    Ok(ListDeal::new(entries))
-}
-
-// Both halves of a circuit without given words, on the section of ticket 0 and unit 0.
-fn halves<D: Deal>(
-    alloc: Global,
-    circuit: &Circuit,
-    deal: &D,
-    a: &[u64],
-    b: &[u64],
-) -> Result<(Half, Half), Fail>
-    requires a { length a.now ≡ input_count A circuit.now.gates }
-    requires b { length b.now ≡ input_count B circuit.now.gates }
-    requires given { given_count circuit.now.gates ≡ 0 }
-    ensures { IfOk result (λ pair. ArePair pair.0 pair.1) }
-{
-    let section = deal.section(alloc, 0, 0, section_len(circuit))?;
-    let (part_a, part_b) = section.split(alloc, circuit)?;
-    let half_a = Half::new(
-        alloc,
-        circuit,
-        Site::A,
-        words(alloc, a)?,
-        Vec::new(alloc),
-        part_a,
-    )?;
-    let half_b = Half::new(
-        alloc,
-        circuit,
-        Site::B,
-        words(alloc, b)?,
-        Vec::new(alloc),
-        part_b,
-    )?;
-    Ok((half_a, half_b))
-}
-
-// What both halves put out first.
-fn outputs<D: Deal>(
-    alloc: Global,
-    circuit: &Circuit,
-    deal: &D,
-    a: &[u64],
-    b: &[u64],
-) -> Result<(u64, u64), Fail> {
-    let counted = circuit.input_count(Site::A) == a.len()
-        && circuit.input_count(Site::B) == b.len();
+// What both halves of one And gate put out.
+fn outputs<D: Deal>(alloc: Global, circuit: &Circuit, deal: &D) -> Result<(u64, u64), Fail> {
+    let counted = circuit.input_count(Site::A) == 1 && circuit.input_count(Site::B) == 1;
     if !counted || circuit.given_count() != 0 {
         return Ok((0, 0));
     }
-    let (half_a, half_b) = halves(alloc, circuit, deal, a, b)?;
+    let (half_a, half_b) = halves(alloc, circuit, deal, &[0xf0], &[0x3c])?;
     let run = run_pair(alloc, half_a, half_b)?;
     Ok((first(run.a().outputs()), first(run.b().outputs())))
 }
@@ -83,20 +30,6 @@ fn first(words: &[Word]) -> u64 {
         [] => 0,
     }
 }
-
-// One And gate of a word of A and a word of B.
-fn one_and(alloc: Global) -> Result<Circuit, Fail> {
-    let mut builder = Builder::new(alloc, 1, 10)?;
-    let x = builder.input(Site::A)?;
-    let y = builder.input(Site::B)?;
-    let z = builder.and(x, y)?;
-    let mut outputs = Vec::new(alloc);
-    outputs.push(z)?;
-    Ok(builder.finish(outputs, true))
-}
-
-// r of both inputs, then a0, a1, b0, b1, c0, then the mask.
-const SECTION: [u64; 8] = [0x0f, 0x33, 0x55, 0x0f, 0x33, 0xff, 0xaa, 0x01];
 
 fn sends(half: &mut Half, expected: &[u64]) -> bool {
     match half.next() {
@@ -141,20 +74,30 @@ fn numbers_of(view: &UnitView) -> Option<(u64, u64, u64, u64, u64)> {
     ))
 }
 
-// Two And gates, of which the second reads the first where they are a chain.
-fn two_ands(alloc: Global, is_chain: bool) -> Result<Circuit, Fail> {
+// A word of A and a word of B in two And gates side by side or one above the other, or in none.
+#[derive(Clone, Copy)]
+enum Form {
+    Sum,
+    Side,
+    Chain,
+}
+
+fn circuit_of(alloc: Global, form: Form) -> Result<Circuit, Fail> {
     let mut builder = Builder::new(alloc, 2, 10)?;
     let x = builder.input(Site::A)?;
     let y = builder.input(Site::B)?;
-    let left = builder.and(x, y)?;
-    let right = if is_chain {
-        builder.and(left, y)?
-    } else {
-        builder.and(y, x)?
+    let last = match form {
+        Form::Sum => builder.xor(x, y)?,
+        Form::Side => {
+            let _first = builder.and(x, y)?;
+            builder.and(y, x)?
+        }
+        Form::Chain => {
+            let first = builder.and(x, y)?;
+            builder.and(first, y)?
+        }
     };
-    let mut outputs = Vec::new(alloc);
-    outputs.push(right)?;
-    Ok(builder.finish(outputs, false))
+    Ok(builder.finish(vec![in alloc; last]?, false))
 }
 
 fn waits(half: &mut Half) -> bool
@@ -192,8 +135,12 @@ fn frames_of(alloc: Global, half: &mut Half) -> Result<(usize, usize), Fail> {
 fn and_gates_of_one_depth_share_a_frame(rt: HostRuntime) -> Result<(), Fail> {
     let alloc = rt.alloc();
     let deal = ListDeal::new(Vec::new(alloc));
-    for (is_chain, frames) in [(false, (1, 4)), (true, (2, 4))] {
-        let circuit = two_ands(alloc, is_chain)?;
+    for (form, frames) in [
+        (Form::Sum, (0, 0)),
+        (Form::Side, (1, 4)),
+        (Form::Chain, (2, 4)),
+    ] {
+        let circuit = circuit_of(alloc, form)?;
         assert!(rt; circuit.input_count(Site::A) == 1 && circuit.input_count(Site::B) == 1);
         assert!(rt; circuit.given_count() == 0);
         let (mut half_a, mut half_b) = halves(alloc, &circuit, &deal, &[0xf0], &[0x3c])?;
@@ -236,44 +183,18 @@ fn a_short_frame_is_refused_and_the_right_one_still_taken(rt: HostRuntime) -> Re
 }
 
 #[test]
-fn a_circuit_without_and_gates_sends_nothing(rt: HostRuntime) -> Result<(), Fail> {
-    let alloc = rt.alloc();
-    let mut builder = Builder::new(alloc, 0, 10)?;
-    let x = builder.input(Site::A)?;
-    let y = builder.input(Site::B)?;
-    let z = builder.xor(x, y)?;
-    let mut gates = Vec::new(alloc);
-    gates.push(z)?;
-    let circuit = builder.finish(gates, false);
-    let deal = deal_words(alloc, &[7, 9])?;
-    assert!(rt; circuit.input_count(Site::A) == 1 && circuit.input_count(Site::B) == 1);
-    assert!(rt; circuit.given_count() == 0);
-    let (mut half_a, mut half_b) = halves(alloc, &circuit, &deal, &[0xf0], &[0x3c])?;
-    assert!(rt; is_done(&mut half_a));
-    assert!(rt; is_done(&mut half_b));
-    let (a, b) = (half_a.finish(), half_b.finish());
-    assert_eq!(rt; a.outputs(), [Word::from_u64(0xf0 ^ 7 ^ 9)].as_slice());
-    assert_eq!(rt; b.outputs(), [Word::from_u64(0x3c ^ 7 ^ 9)].as_slice());
-    Ok(())
-}
-
-#[test]
 fn one_and_gate_is_as_by_hand_and_its_sum_the_same_for_every_tape(
     rt: HostRuntime,
 ) -> Result<(), Fail> {
     let alloc = rt.alloc();
     let circuit = one_and(alloc)?;
-    let given = deal_words(alloc, &SECTION)?;
-    let zero = ListDeal::new(Vec::new(alloc));
-    let ones = deal_words(alloc, &[u64::MAX; 8])?;
-    let stream = ChaChaDeal::new([5; 32]);
-    let by_hand = outputs(alloc, &circuit, &given, &[0xf0], &[0x3c])?;
+    let by_hand = outputs(alloc, &circuit, &deal_words(alloc, &SECTION)?)?;
     assert_eq!(rt; by_hand, (0x79, 0x49));
-    let (a, b) = outputs(alloc, &circuit, &zero, &[0xf0], &[0x3c])?;
-    assert_eq!(rt; a ^ b, 0x30, "zero words");
-    let (a, b) = outputs(alloc, &circuit, &ones, &[0xf0], &[0x3c])?;
-    assert_eq!(rt; a ^ b, 0x30, "words of ones");
-    let (a, b) = outputs(alloc, &circuit, &stream, &[0xf0], &[0x3c])?;
-    assert_eq!(rt; a ^ b, 0x30, "a key stream");
+    for words in [[0; 8], [u64::MAX; 8]] {
+        let (a, b) = outputs(alloc, &circuit, &deal_words(alloc, &words)?)?;
+        assert_eq!(rt; a ^ b, 0x30);
+    }
+    let (a, b) = outputs(alloc, &circuit, &ChaChaDeal::new([5; 32]))?;
+    assert_eq!(rt; a ^ b, 0x30);
     Ok(())
 }

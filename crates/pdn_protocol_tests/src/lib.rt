@@ -8,3 +8,7 @@ mod dealers;
 mod halves;
 #[cfg(test)]
 mod kernels;
+#[cfg(test)]
+mod runs;
+#[cfg(test)]
+mod shifts;

@@ -1,5 +1,5 @@
-//! What texts and files say, and what becomes of it: files and sinks, refusals, values and rows, schemas, queries, CSV
-//! texts and batches. Nothing but tests of public calls.
+//! What texts and files say, and what becomes of it: files and sinks, refusals, values and rows, schemas, queries and
+//! batches. Nothing but tests of public calls; what the top call tells of them stands in cases.
 #![tactic(auto)]
 
 #[cfg(test)]

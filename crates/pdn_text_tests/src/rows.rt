@@ -1,11 +1,6 @@
-//! Codes, numbers, values and words, and rows in order and under conditions.
+//! Codes, numbers, values and words, and rows in order.
 use crate::texts::{code, rows_of};
-use pdn_base::{
-    Clause, Cmp, Code, Cond, Key, Memory, Op, Operand, Row, Rows, Tables, Term, Value, Word,
-    number, row_meets, rows_order, sort_rows,
-};
-use std::alloc::Global;
-use std::cmp::Ordering;
+use pdn_base::{Code, Key, Tables, Value, Word, number, sort_rows};
 use std::test::Fail;
 
 #[test]
@@ -110,78 +105,27 @@ fn sorted_rows_keep_equal_ones_and_follow_their_keys(rt: HostRuntime) -> Result<
     let one = [n(4), n(1)];
     let low = [n(9), n(0)];
     let high = [n(9), n(2)];
-    let cases: [(&[Key], [&[Value]; 4]); 3] = [
-        (&[], [&one, &low, &high, &high]),
-        (&[key(0, true)], [&low, &high, &high, &one]),
-        (&[key(1, true), key(0, false)], [&high, &high, &one, &low]),
+    let cases: [(&[Key], [&[Value]; 4], [&[Value]; 4]); 4] = [
+        (
+            &[],
+            [&[n(9)], &[n(4)], &[n(9)], &[n(0)]],
+            [&[n(0)], &[n(4)], &[n(9)], &[n(9)]],
+        ),
+        (&[], [&high, &one, &low, &high], [&one, &low, &high, &high]),
+        (
+            &[key(0, true)],
+            [&high, &one, &low, &high],
+            [&low, &high, &high, &one],
+        ),
+        (
+            &[key(1, true), key(0, false)],
+            [&high, &one, &low, &high],
+            [&high, &high, &one, &low],
+        ),
     ];
-    for (keys, wanted) in cases {
-        let sorted = sort_rows(rows_of(alloc, &[&high, &one, &low, &high])?, keys)?;
+    for (keys, given, wanted) in cases {
+        let sorted = sort_rows(rows_of(alloc, &given)?, keys)?;
         assert!(rt; sorted.as_slice() == rows_of(alloc, &wanted)?.as_slice());
-    }
-    let down = rows_order(
-        &[key(1, true)],
-        &Row::new(Vec::from_slice(alloc, &one)?),
-        &Row::new(Vec::from_slice(alloc, &high)?),
-    );
-    assert!(rt; down == Ordering::Greater);
-    Ok(())
-}
-
-#[test]
-fn two_thousand_rows_are_sorted(rt: HostRuntime) -> Result<(), Fail> {
-    let alloc = rt.alloc();
-    let mut rows = Vec::new(alloc);
-    for place in 0..2_000u32 {
-        // 7 and 2,000 have no factor in common: each number below 2,000 comes once
-        rows.push(Row::new(Vec::from_slice(alloc, &[Value::Int(place * 7 % 2_000)])?))?;
-    }
-    let sorted = sort_rows(Rows { rows }, &[])?;
-    assert_eq!(rt; sorted.as_slice().len(), 2_000);
-    for (place, row) in sorted.as_slice().iter().enumerate() {
-        assert_eq!(rt; row.cell(0).number(), place as u64);
-    }
-    Ok(())
-}
-
-/// The condition whose clauses have these comparisons of column 0 with column 1.
-fn condition(alloc: Global, clauses: &[&[Op]]) -> Result<Cond, Memory> {
-    let mut all = Vec::new(alloc);
-    for ops in clauses {
-        let mut any = Vec::new(alloc);
-        for op in *ops {
-            any.push(Cmp {
-                left: Term {
-                    column: 0,
-                    plus: None,
-                },
-                op: *op,
-                right: Operand::Term(Term {
-                    column: 1,
-                    plus: None,
-                }),
-            })?;
-        }
-        all.push(Clause { any })?;
-    }
-    Ok(Cond { all })
-}
-
-#[test]
-fn every_clause_has_a_true_comparison(rt: HostRuntime) -> Result<(), Fail> {
-    let alloc = rt.alloc();
-    let pair = [Value::Int(5), Value::Int(7)];
-    let row = Row::new(Vec::from_slice(alloc, &pair)?);
-    let cases: [(&[&[Op]], bool); 6] = [
-        (&[], true),
-        (&[&[]], false),
-        (&[&[Op::Lt], &[Op::Le], &[Op::Ne]], true),
-        (&[&[Op::Gt, Op::Lt], &[Op::Ge, Op::Ne]], true),
-        (&[&[Op::Lt], &[Op::Gt, Op::Eq]], false),
-        (&[&[Op::Eq, Op::Ge, Op::Gt]], false),
-    ];
-    for (clauses, meets) in cases {
-        assert_eq!(rt; row_meets(&condition(alloc, clauses)?, &row), meets);
     }
     Ok(())
 }
@@ -189,22 +133,17 @@ fn every_clause_has_a_true_comparison(rt: HostRuntime) -> Result<(), Fail> {
 #[test]
 fn copies_are_equal(rt: HostRuntime) -> Result<(), Fail> {
     let alloc = rt.alloc();
-    let first = [Value::Int(3), code(b"flu")];
-    let second = [Value::Int(1), code(b"x")];
-    let rows = rows_of(alloc, &[&first, &second])?;
+    let pair = [Value::Int(3), code(b"flu")];
+    let rows = rows_of(alloc, &[&pair, &pair])?;
     let copy = rows.copy(alloc)?;
     assert!(rt; rows.as_slice() == copy.as_slice());
-    for row in rows.as_slice() {
-        assert!(rt; row.copy(alloc)?.values() == row.values());
-    }
-    let mut lists = Vec::new(alloc);
-    lists.push(rows)?;
-    lists.push(copy)?;
-    let tables = Tables { lists };
+    let tables = Tables {
+        lists: vec![in alloc; rows]?,
+    };
     let others = tables.copy(alloc)?;
-    assert_eq!(rt; others.lists.len(), 2);
-    for (rows, other) in tables.lists.iter().zip(others.lists.iter()) {
-        assert!(rt; rows.as_slice() == other.as_slice());
+    assert_eq!(rt; others.lists.len(), 1);
+    for other in &others.lists {
+        assert!(rt; other.as_slice() == copy.as_slice());
     }
     Ok(())
 }

@@ -1,53 +1,8 @@
-//! Schemas read and printed, files that are refused, and rows judged by a schema.
-use crate::texts::{LARGE, SMALL, code, repeated, rows_of, schema_of};
-use pdn_base::{Rows, RowsErr, Value};
-use pdn_schema::{Schema, SchemaErr, count_of, print_schema, read_schema, valid_rows};
+//! Files that are refused as schemas.
+use crate::texts::LARGE;
+use pdn_schema::{SchemaErr, read_schema};
 use std::alloc::Global;
 use std::test::Fail;
-
-/// A small schema in other spellings.
-const FREE: &str =
-    "# two sites\r\n\n version\t01 \r\n\t\nfloor 0000000003\n  # a table\ntable\tt  rows 8\r\ncolumn c int private\nend";
-
-/// A name of sixteen bytes, and one that begins with a word of SQL.
-const NAMES: &str =
-    "version 1\nfloor 3\ntable abcdefghijklmn_9 rows 4\ncolumn groups int private\nend\n";
-
-const CALLERS: &str =
-    "caller a calls 1\ncaller b calls 2\ncaller c calls 3\ncaller d calls 4\ncaller e calls 5\ncaller f calls 6\ncaller g calls 7\ncaller h calls 65536\n";
-
-const COLUMNS: &str =
-    "column a int public per 64\ncolumn b int public per 1\ncolumn c int private\ncolumn d code protected\ncolumn e code public per 64\ncolumn f int protected\ncolumn g int private\ncolumn h int private\n";
-
-/// Eight callers, and eight tables of eight columns.
-fn full(alloc: Global) -> Result<String, Fail> {
-    let mut text = format!(in alloc; "version 1\nfloor 64\n{CALLERS}")?;
-    for table in ["a", "b", "c", "d", "e", "f", "g", "h"] {
-        text = format!(in alloc; "{text}table {table} rows 256\n{COLUMNS}")?;
-    }
-    Ok(format!(in alloc; "{text}end\n")?)
-}
-
-#[test]
-fn schemas_are_read_and_printed_again(rt: HostRuntime) -> Result<(), Fail> {
-    let alloc = rt.alloc();
-    let full = full(alloc)?;
-    let told = format!(in alloc; "# one two three four five six seven\n{full}")?;
-    for (text, wanted) in [
-        (SMALL, SMALL),
-        (LARGE, LARGE),
-        (NAMES, NAMES),
-        (FREE, SMALL),
-        (told.as_str(), full.as_str()),
-    ] {
-        let schema = schema_of(alloc, text)?;
-        let printed = print_schema(alloc, &schema)?;
-        assert_eq!(rt; printed.as_slice(), wanted.as_bytes());
-        let copied = print_schema(alloc, &schema.copy(alloc)?)?;
-        assert_eq!(rt; copied.as_slice(), wanted.as_bytes());
-    }
-    Ok(())
-}
 
 /// Files, a line each, with `/` for a line feed, then the line and the cause that are answered.
 const FAULTS: &str = "version 1/floor 65/table t rows 8/column c int private/end/ => 2 4
@@ -111,75 +66,12 @@ fn the_first_fault_is_answered_with_its_least_cause(rt: HostRuntime) -> Result<(
         let got = format!(in alloc; "{line} {cause}")?;
         assert_eq!(rt; got.as_str(), wanted, "of {file}");
     }
-    let mut text = repeated(String::new(alloc), "# a comment\n", 10_000)?;
-    text.push_str("floor 3\n")?;
-    assert_eq!(rt; refusal(alloc, text.as_str()), Some((10_001, 2)));
-    Ok(())
-}
-
-#[test]
-fn a_file_that_is_cut_off_says_no_schema(rt: HostRuntime) {
-    let bytes = LARGE.as_bytes();
-    for n in 0..bytes.len() {
-        let whole = n + 1 == bytes.len();
-        assert_eq!(rt;
-            read_schema(rt.alloc(), &bytes[..n]).is_ok(),
-            whole,
-            "at {n}"
-        );
+    // no front of a file is one, but for what has no last line feed
+    let whole = LARGE.len();
+    for length in 0..whole {
+        let front = LARGE.as_bytes().get(..length).unwrap_or(b"");
+        let is_one = read_schema(alloc, front).is_ok();
+        assert_eq!(rt; is_one, length + 1 == whole, "at {length}");
     }
-}
-
-/// Rows of a patient each with one code and one day, and behind them, where it is asked for, one of a number alone.
-fn diagnoses(alloc: Global, pids: &[u32], short: bool) -> Result<Rows, Fail> {
-    let mut rows = rows_of(alloc, &[])?;
-    for pid in pids {
-        let one = rows_of(alloc, &[&[Value::Int(*pid), code(b"flu"), Value::Int(1)]])?;
-        rows.rows.extend(one.rows)?;
-    }
-    if short {
-        rows.rows.extend(rows_of(alloc, &[&[Value::Int(1)]])?.rows)?;
-    }
-    Ok(rows)
-}
-
-/// What `valid_rows` says, where the table is one of the schema's and there are few rows.
-fn judged(schema: &Schema, table: u32, rows: &Rows) -> Option<Result<(), RowsErr>> {
-    if schema.tables.len() <= table as usize || 1_000 < rows.rows.len() {
-        return None;
-    }
-    Some(valid_rows(schema, table, rows))
-}
-
-#[test]
-fn rows_are_judged_by_type_then_number_then_value(rt: HostRuntime) -> Result<(), Fail> {
-    let alloc = rt.alloc();
-    let schema = schema_of(alloc, LARGE)?;
-    let many = [1, 1, 1, 1, 1, 2, 3, 4, 5, 6, 7, 8, 9, 10, 11, 12, 13];
-    for (table, pids, short, answer) in [
-        (
-            1,
-            &many[..],
-            true,
-            Err(RowsErr::WrongType { row: 17, column: 1 }),
-        ),
-        (1, &many[..], false, Err(RowsErr::TooMany)),
-        (1, &many[..16], false, Err(RowsErr::PerValue(0))),
-        (1, &many[1..], false, Ok(())),
-        (
-            0,
-            &many[1..],
-            false,
-            Err(RowsErr::WrongType { row: 0, column: 1 }),
-        ),
-        (2, &many[1..], false, Ok(())),
-    ] {
-        let rows = diagnoses(alloc, pids, short)?;
-        assert_eq!(rt; judged(&schema, table, &rows), Some(answer));
-    }
-    let rows = diagnoses(alloc, &many, false)?;
-    assert_eq!(rt; count_of(rows.as_slice(), 0, 1), 5);
-    assert!(rt; 1 < schema.tables.len());
-    assert_eq!(rt; schema.table(1).name.as_str(), "diag");
     Ok(())
 }

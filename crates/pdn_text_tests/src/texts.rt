@@ -4,10 +4,7 @@ use pdn_schema::{Schema, read_schema};
 use std::alloc::Global;
 use std::test::Fail;
 
-/// A table of one column, and below the other schemas' tables too.
-pub const SMALL: &str = "version 1\nfloor 3\ntable t rows 8\ncolumn c int private\nend\n";
-
-/// Two tables of the hospitals between a small one and a wide one.
+/// Two tables of the hospitals between a small one and a wide one, and a caller.
 pub const LARGE: &str =
     "version 1\nfloor 3\ncaller ann calls 2\ntable t rows 8\ncolumn c int private\ntable diag rows 16\ncolumn pid int public per 4\ncolumn code code protected\ncolumn day int private\ntable med rows 16\ncolumn pid int public per 4\ncolumn drug code protected\ncolumn day int private\ntable wide rows 256\ncolumn y int public per 64\ncolumn x int private\nend\n";
 

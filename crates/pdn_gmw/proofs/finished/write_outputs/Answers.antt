@@ -1,6 +1,6 @@
-use Rattle.std.proofs.Common.{◌≡◌, ◌<◌, ℕ, [], length, get_or, ap, sym, ◌∙◌, subst, arith}
+use Rattle.std.proofs.Common.{◌≡◌, ◌<◌, [], length, get_or, ap, sym, ◌∙◌, subst, arith}
 use Rattle.std.proofs.lemmas.List.{length-set, get_or_read}
-use Rattle.pdn_circuit.specs.Gates.{Net, IsCircuit}
+use Rattle.pdn_circuit.specs.Gates.{Net}
 use Rattle.pdn_gmw.specs.Known.{held}
 use Rattle.pdn_gmw.proofs.Putting.{put_out_more, all_put_out, share_read}
 use Rattle.pdn_gmw.proofs.finished.write_outputs.Goals as goal

@@ -1,4 +1,4 @@
-use Rattle.std.proofs.Common.{◌≡◌, ℕ, take, map}
+use Rattle.std.proofs.Common.{◌≡◌, take, map}
 use Rattle.pdn_gmw.specs.Known.{unheard}
 use Rattle.pdn_gmw.proofs.half.unheard.Given as goal
 

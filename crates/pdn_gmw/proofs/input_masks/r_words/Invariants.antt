@@ -1,12 +1,7 @@
-use Rattle.std.proofs.Common.{◌≡◌, ◌≤◌, ℕ, take}
-use Rattle.std.specs.List.{count_by}
-use Rattle.pdn_circuit.specs.Gates.{is_input}
-use Rattle.pdn_gmw.specs.Shares.{r_words}
+use Rattle.std.proofs.Common.{◌≡◌, take}
+use Rattle.std.specs.List.{flat_map}
+use Rattle.pdn_gmw.specs.Known.{leaf_r}
 use Rattle.pdn_gmw.proofs.input_masks.r_words.Given as goal
 
-abbrev pub invariant-loop-gate : goal.invariant-loop-gate
-invariant-loop-gate l = record {
-  words : l.words.items ≡ r_words l.site l.r 0 (take l.gate-index l.circuit.gates);
-  inputs : l.inputs ≡ count_by is_input (take l.gate-index l.circuit.gates);
-  few : l.inputs ≤ l.gate-index;
-}
+abbrev pub invariant-loop-leaf : goal.invariant-loop-leaf
+invariant-loop-leaf l = record { words : l.words.items ≡ flat_map (leaf_r l.site l.r) (take l.leaf-index l.leaves) }

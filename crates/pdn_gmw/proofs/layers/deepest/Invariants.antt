@@ -1,4 +1,4 @@
-use Rattle.std.proofs.Common.{◌≡◌, ℕ, max, take}
+use Rattle.std.proofs.Common.{◌≡◌, max, take}
 use Rattle.std.specs.List.{fold}
 use Rattle.pdn_gmw.proofs.layers.deepest.Given as goal
 

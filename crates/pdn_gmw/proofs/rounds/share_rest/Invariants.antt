@@ -1,4 +1,4 @@
-use Rattle.std.proofs.Common.{◌≡◌, ℕ, length, take}
+use Rattle.std.proofs.Common.{◌≡◌, length, take}
 use Rattle.std.specs.List.{fold}
 use Rattle.pdn_gmw.specs.Known.{linear_settled}
 use Rattle.pdn_gmw.proofs.rounds.share_rest.Given as goal

@@ -1,7 +1,6 @@
-use Rattle.std.proofs.Common.{◌≡◌, ◌+◌, ℕ, List, length, ap, sym, ◌∙◌, subst, arith}
+use Rattle.std.proofs.Common.{◌≡◌, length, ap, ◌∙◌, arith}
 use Rattle.pdn_base.specs.Words.{xor_lists}
-use Rattle.pdn_circuit.specs.Gates.{Net, output_words}
-use Rattle.pdn_gmw.specs.declared.stage.Stage.TheVariants.{Sent, Over}
+use Rattle.pdn_gmw.specs.declared.stage.Stage.TheVariants.{Sent}
 use Rattle.pdn_gmw.specs.Steps.{HalfState, FinishedHalf, frame_count, next_frame, after_next, after_take}
 use Rattle.pdn_gmw.specs.Pairs.{run_of}
 use Rattle.pdn_gmw.proofs.Running.{state_a, state_b, begins_a, begins_b, next_a, next_b, ended_a, ended_b, shares_open, frame_few}

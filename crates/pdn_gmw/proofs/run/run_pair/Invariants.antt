@@ -1,6 +1,5 @@
 use Rattle.std.proofs.Common.{◌≡◌}
-use Rattle.pdn_gmw.specs.Steps.{frame_count, Fits}
-use Rattle.pdn_circuit.specs.Gates.{IsCircuit}
+use Rattle.pdn_gmw.specs.Steps.{frame_count}
 use Rattle.pdn_gmw.proofs.Running.{state_a, state_b}
 use Rattle.pdn_gmw.proofs.run.run_pair.Given as goal
 

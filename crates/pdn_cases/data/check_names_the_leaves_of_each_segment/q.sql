@@ -1,0 +1,12 @@
+WITH d AS (SELECT pid, day, ROW_NUMBER() OVER (PARTITION BY pid ORDER BY day) AS r FROM diag WHERE code = 'cdiff') SELECT DISTINCT a.pid FROM d a JOIN d b ON a.pid = b.pid AND b.r = a.r + 1 WHERE b.day >= a.day + 15 AND b.day <= a.day + 56 ORDER BY pid;
+SELECT DISTINCT pid FROM diag;
+SELECT pid FROM diag;
+SELECT COUNT(*) FROM diag;
+WITH m AS (SELECT DISTINCT pid FROM med), d AS (SELECT DISTINCT pid FROM diag) SELECT m.pid FROM m JOIN d ON m.pid < d.pid;
+SELECT code FROM diag GROUP BY code, pid HAVING COUNT(*) >= 3;
+SELECT p.a FROM two p JOIN two q ON p.a < q.b AND q.b = p.a;
+SELECT p.a FROM two p JOIN two q ON p.a = q.b + 0 AND p.a = p.b;
+SELECT p.b FROM two p JOIN two q ON p.b = q.b AND p.b = q.a;
+WITH n AS (SELECT pid, ROW_NUMBER() OVER (PARTITION BY code, pid ORDER BY day DESC) AS r FROM diag) SELECT pid FROM n;
+WITH n AS (SELECT pid, ROW_NUMBER() OVER (PARTITION BY code ORDER BY pid) AS r FROM diag) SELECT pid FROM n;
+SELECT v.y FROM wide v JOIN wide w ON v.x = w.x;

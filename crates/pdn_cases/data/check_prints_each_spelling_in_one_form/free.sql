@@ -1,0 +1,1 @@
+select distinct A.x as Z,GROUPS from t a inner join abcdefghijklmn_9 on (a.x<>groups or a.x + 7>=3) and ( K<'z' ) limit 09;with a as (select row_number ( ) over(order by x desc,y)as n from t),b as(select n from a)select n from b where n>1;SELECT x,COUNT(*)AS n FROM t GROUP BY x,t.y HAVING COUNT(*)>=3 ORDER BY x ASC,n DESC;--

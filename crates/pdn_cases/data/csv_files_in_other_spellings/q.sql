@@ -1,0 +1,2 @@
+SELECT c FROM t;
+SELECT code FROM diag;

@@ -1,0 +1,1 @@
+WITH d AS (SEL

@@ -1,0 +1,1 @@
+WITH d AS (SELECT pid, day, ROW_NUMBER() OVER (PARTITION BY pid ORDER BY day) AS r FROM diag WHERE code = 'cdiff') SELECT DISTINCT a.pid FROM d AS a JOIN d AS b ON a.pid = b.pid AND 

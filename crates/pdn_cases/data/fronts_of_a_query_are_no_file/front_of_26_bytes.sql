@@ -1,0 +1,1 @@
+WITH d AS (SELECT pid, day

@@ -1,0 +1,2 @@
+-- nothing
+SELECT a FROM t; x

@@ -1,0 +1,1 @@
+SELECT a FROM t; WITH a AS (SELECT x, y FROM t), b AS (SELECT x FROM t), c AS (SELECT x FROM t), d AS (SELECT x FROM t), name

@@ -1,0 +1,1 @@
+WITH a AS (SELECT x FROM t), b AS (SELECT x FROM t), c AS (SELECT x FROM t), d AS (SELECT x FROM t) e

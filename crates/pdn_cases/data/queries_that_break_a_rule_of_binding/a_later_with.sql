@@ -1,0 +1,1 @@
+WITH a AS (SELECT pid FROM b), b AS (SELECT pid FROM diag) SELECT pid FROM a;

@@ -1,0 +1,1 @@
+SELECT pid, day AS d FROM diag GROUP BY pid;

@@ -1,0 +1,1 @@
+SELECT pid FROM diag d JOIN med m ON d.pid = m.pid;

@@ -1,0 +1,1 @@
+SELECT pid, pid, pid, pid, pid, pid, pid, pid, pid, pid, pid, pid, pid, pid, pid, pid, pid FROM diag;

@@ -1,0 +1,1 @@
+WITH z AS (SELECT y AS a, y AS b, y AS c, y AS d, y AS e, y AS f, y AS g, y AS h, y AS i, y AS j, y AS k, y AS l, y AS m, y AS n, y AS o, y AS p FROM wide) SELECT a FROM z GROUP BY a, b, c, d, e, f, g, h, i, j, k, l, m, n, o, p;

@@ -1,0 +1,1 @@
+WITH z AS (SELECT y AS a, y AS b, y AS c, y AS d, y AS e, y AS f, y AS g, y AS h, y AS i FROM wide) SELECT v.a FROM z v JOIN z w ON v.a = w.a AND v.b = w.b AND v.c = w.c AND v.d = w.d AND v.e = w.e AND v.f = w.f AND v.g = w.g AND v.h = w.h AND v.i = w.i;

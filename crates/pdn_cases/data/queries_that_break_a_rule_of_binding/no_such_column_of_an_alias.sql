@@ -1,0 +1,1 @@
+SELECT d.x FROM diag d;

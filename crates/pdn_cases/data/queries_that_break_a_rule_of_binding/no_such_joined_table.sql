@@ -1,0 +1,1 @@
+SELECT diag.pid FROM diag JOIN gone ON diag.pid = gone.pid;

@@ -1,0 +1,1 @@
+WITH a AS (SELECT x.pid FROM diag x JOIN diag y ON x.pid = y.pid), b AS (SELECT x.pid FROM a x JOIN a y ON x.pid = y.pid), c AS (SELECT x.pid FROM b x JOIN b y ON x.pid = y.pid), d AS (SELECT x.pid FROM c x JOIN c y ON x.pid = y.pid) SELECT pid FROM d;

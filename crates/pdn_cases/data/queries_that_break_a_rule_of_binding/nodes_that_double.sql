@@ -1,0 +1,1 @@
+WITH a AS (SELECT x.day FROM diag x JOIN diag y ON x.pid = y.pid), b AS (SELECT x.day FROM a x JOIN a y ON x.day = y.day), c AS (SELECT x.day FROM b x JOIN b y ON x.day = y.day) SELECT x.day FROM c x JOIN c y ON x.day = y.day;

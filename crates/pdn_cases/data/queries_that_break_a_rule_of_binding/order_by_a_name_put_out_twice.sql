@@ -1,0 +1,1 @@
+SELECT pid, day AS pid FROM diag ORDER BY pid;

@@ -1,0 +1,1 @@
+SELECT pid, ROW_NUMBER() OVER (ORDER BY pid) FROM diag GROUP BY pid;

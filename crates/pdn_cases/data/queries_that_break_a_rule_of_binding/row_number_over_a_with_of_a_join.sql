@@ -1,0 +1,1 @@
+WITH j AS (SELECT d.pid FROM diag d JOIN med m ON d.pid = m.pid), k AS (SELECT pid FROM j) SELECT pid, ROW_NUMBER() OVER (ORDER BY pid) FROM k;

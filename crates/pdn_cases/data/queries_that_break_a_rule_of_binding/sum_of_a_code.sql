@@ -1,0 +1,1 @@
+SELECT pid FROM diag d WHERE d.code + 1 = 'flu';

@@ -1,0 +1,1 @@
+SELECT diag.pid FROM diag JOIN diag ON diag.pid = diag.pid;

@@ -1,0 +1,1 @@
+SELECT diag.pid FROM diag d;

@@ -1,0 +1,1 @@
+WITH a AS (SELECT pid FROM med), a AS (SELECT pid FROM med) SELECT pid FROM a;

@@ -1,0 +1,1 @@
+WITH a AS (SELECT pid FROM diag LIMIT 3) SELECT pid FROM a;

@@ -1,0 +1,1 @@
+WITH a AS (SELECT pid FROM diag), b AS (SELECT pid FROM a LIMIT 1) SELECT pid FROM a;

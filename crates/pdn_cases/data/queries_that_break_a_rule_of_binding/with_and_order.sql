@@ -1,0 +1,1 @@
+WITH a AS (SELECT pid FROM diag ORDER BY pid) SELECT pid FROM a;

@@ -1,0 +1,1 @@
+WITH diag AS (SELECT pid FROM med) SELECT pid FROM diag;

@@ -1,0 +1,1 @@
+WITH a AS (SELECT pid, day AS pid FROM med) SELECT pid FROM a;

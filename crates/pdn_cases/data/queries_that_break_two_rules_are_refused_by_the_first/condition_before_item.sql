@@ -1,0 +1,1 @@
+SELECT x FROM diag d JOIN med m ON d.y = 1 WHERE z = 1;

@@ -1,0 +1,1 @@
+WITH a AS (SELECT x FROM diag ORDER BY pid) SELECT y FROM a;

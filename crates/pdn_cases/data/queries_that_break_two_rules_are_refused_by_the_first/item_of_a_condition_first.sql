@@ -1,0 +1,1 @@
+SELECT x FROM diag WHERE code = y;

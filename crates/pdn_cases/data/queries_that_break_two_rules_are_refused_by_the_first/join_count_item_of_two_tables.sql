@@ -1,0 +1,1 @@
+SELECT COUNT(*), day FROM diag d JOIN med m ON d.pid = m.pid;

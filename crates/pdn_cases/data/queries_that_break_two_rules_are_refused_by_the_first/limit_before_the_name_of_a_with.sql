@@ -1,0 +1,1 @@
+WITH diag AS (SELECT pid, pid FROM med LIMIT 1) SELECT y FROM diag;

@@ -1,0 +1,1 @@
+WITH diag AS (SELECT pid, pid FROM med) SELECT y FROM diag;

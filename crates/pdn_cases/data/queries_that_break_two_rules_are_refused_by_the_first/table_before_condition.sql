@@ -1,0 +1,1 @@
+SELECT x FROM diag d JOIN gone g ON d.y = 1;

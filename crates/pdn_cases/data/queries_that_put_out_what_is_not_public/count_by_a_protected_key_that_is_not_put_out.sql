@@ -1,0 +1,1 @@
+SELECT pid, COUNT(*) AS n FROM diag GROUP BY pid, code;

@@ -1,0 +1,1 @@
+SELECT pid, d.day, code FROM diag d;

@@ -1,0 +1,1 @@
+WITH a AS (SELECT day AS x FROM diag) SELECT x FROM a;

@@ -1,0 +1,1 @@
+SELECT day, COUNT(*) AS n FROM diag GROUP BY day HAVING COUNT(*) >= 3;

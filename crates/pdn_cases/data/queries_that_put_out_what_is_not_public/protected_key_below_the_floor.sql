@@ -1,0 +1,1 @@
+SELECT code, COUNT(*) AS n FROM diag GROUP BY code HAVING COUNT(*) >= 2;

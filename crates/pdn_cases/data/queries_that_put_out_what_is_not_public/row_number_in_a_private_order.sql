@@ -1,0 +1,1 @@
+SELECT pid, ROW_NUMBER() OVER (ORDER BY day) AS r FROM diag;

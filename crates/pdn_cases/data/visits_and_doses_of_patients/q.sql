@@ -1,0 +1,2 @@
+WITH v AS (SELECT pid, COUNT(*) AS n FROM visit GROUP BY pid), d AS (SELECT pid, amount, ROW_NUMBER() OVER (PARTITION BY pid ORDER BY amount DESC) AS r FROM dose) SELECT v.pid, v.n, d.amount, d.r FROM v JOIN d ON v.pid = d.pid ORDER BY pid;
+WITH v AS (SELECT pid, COUNT(*) AS n FROM visit GROUP BY pid), d AS (SELECT pid, amount, ROW_NUMBER() OVER (PARTITION BY pid ORDER BY amount DESC) AS r FROM dose) SELECT DISTINCT d.amount, v.n FROM v JOIN d ON v.pid = d.pid WHERE v.n >= d.r ORDER BY amount DESC LIMIT 2;

@@ -1,0 +1,2 @@
+mod DrawSteps
+mod PlaceLaws
