@@ -23,11 +23,13 @@ use Rattle.pdn_schema.specs.Printing.{text_of}
 use Rattle.pdn_commands.specs.Checking.{reporting, query_report, AreReported}
 use Rattle.pdn_commands.specs.Causes.{AskedRun, AskedQueries, AskedCheck, AskedReports, AskedLoad, AskedTable, Inputs, IsReached, IsAsked, IsFirstWrong, AreWrong, Cause, IsLoaded, IsDone, file_of}
 use Rattle.pdn_commands.specs.Commands.{Task, Run, Check, Load, task_of, task_script, script}
-use Rattle.pdn_commands.specs.Answering.{scans, asking_if, asking, or_wrong, judging, units_over, or_large, answer_text, answering, queries_script, KeepsIf, KeepsAll, AllValid, IsTaken, IsAnswer, AreAnswers}
-use Rattle.pdn_commands.specs.Questions.{Told, Unbound, Broken, Hidden, IsBound, Holds, Valid, IsWrong, kept_at, IsSchemaIn, AreQueriesIn, AreRowsIn, Answer, New, Again, Differs, OverRows, OverPer, Batch, Gives, after, questions}
-use Rattle.pdn_commands.specs.Script.{Script, Finish, Refuse, Say, Ask, found, with_inputs, or_fault, or_unbound, answered, load_table, table_number}
-use Rattle.pdn_commands.specs.Walk.{Refusals, Texts, Follows, End, NoMemory, Closes, Wrote, Along}
-use Rattle.pdn_commands.specs.World.{WorldModel, RoseIn}
+use Rattle.pdn_query.specs.Answering.{scans, asking_if, asking, or_wrong, judging, units_over, or_large, answer_text, answering, KeepsIf, KeepsAll, AllValid, IsTaken, IsAnswer}
+use Rattle.pdn_commands.specs.Running.{queries_script, AreAnswers}
+use Rattle.pdn_query.specs.Questions.{Told, Unbound, Broken, Hidden, IsBound, Holds, Valid, IsWrong, kept_at, IsSchemaIn, AreQueriesIn, AreRowsIn, Answer, New, Again, Differs, OverRows, OverPer, Batch, Gives, after, questions}
+use Rattle.pdn_query.specs.Script.{Script, Finish, Refuse, Say, Ask, or_fault, or_unbound}
+use Rattle.pdn_commands.specs.Script.{found, with_inputs, answered, load_table, table_number}
+use Rattle.pdn_query.specs.Walk.{Refusals, Texts, Follows, End, NoMemory, Closes, Wrote, Along}
+use Rattle.pdn_query.specs.World.{WorldModel, RoseIn}
 use Rattle.pdn_script.specs.Ways.{IsPlain}
 use Rattle.pdn_script.proofs.Ends.{status_has, done_text, memory_end}
 

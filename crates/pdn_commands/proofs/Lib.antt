@@ -1,5 +1,3 @@
-pub mod Walks
-pub mod Worlds
-pub mod Gathers
-pub mod Ready
+pub mod Tasks
+pub mod Runs
 pub mod Causes

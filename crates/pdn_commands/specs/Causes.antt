@@ -14,11 +14,12 @@ use Rattle.pdn_schema.specs.Reading.{Says}
 use Rattle.pdn_schema.specs.Rows.{IsRefused}
 use Rattle.pdn_sql.specs.declared.query.Query.{Query}
 use Rattle.pdn_commands.specs.Commands.{Task, Run, Check, Load, task_of}
-use Rattle.pdn_commands.specs.Answering.{IsTaken, AreAnswers, KeepsAll, AllValid, units_over}
+use Rattle.pdn_query.specs.Answering.{IsTaken, KeepsAll, AllValid, units_over}
+use Rattle.pdn_commands.specs.Running.{AreAnswers}
 use Rattle.pdn_commands.specs.Checking.{AreReported}
 use Rattle.pdn_schema.specs.Printing.{text_of}
 use Rattle.pdn_tree.specs.Plans.{PlanModel}
-use Rattle.pdn_commands.specs.Questions.{Told, Unbound, Broken, Hidden, IsBound, Holds, Answer, New, Again, Differs, OverRows, OverPer, Batch, Gives, kept_at, with_new, IsSchemaIn, AreQueriesIn, AreRowsIn}
+use Rattle.pdn_query.specs.Questions.{Told, Unbound, Broken, Hidden, IsBound, Holds, Answer, New, Again, Differs, OverRows, OverPer, Batch, Gives, kept_at, with_new, IsSchemaIn, AreQueriesIn, AreRowsIn}
 use Rattle.pdn_commands.specs.Script.{table_number, loaded_text}
 use Rattle.pdn_keeper.specs.Batches.{batch_held}
 

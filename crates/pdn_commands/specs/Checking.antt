@@ -11,9 +11,9 @@ use Rattle.pdn_tree.specs.declared.plan.OutColumn.{OutColumn}
 use Rattle.pdn_level.specs.Levels.{segments_of}
 use Rattle.pdn_level.specs.Models.{SegmentModel}
 use Rattle.pdn_level.specs.declared.staged.Leaf.{Leaf}
-use Rattle.pdn_commands.specs.Answering.{query_name}
-use Rattle.pdn_commands.specs.Questions.{IsBound}
-use Rattle.pdn_commands.specs.Script.{Script, Finish, Say, binding, column_name}
+use Rattle.pdn_query.specs.Answering.{query_name}
+use Rattle.pdn_query.specs.Questions.{IsBound}
+use Rattle.pdn_query.specs.Script.{Script, Finish, Say, binding, column_name}
 
 -- a query as it is printed, behind its number
 abbrev pub query_line : ℕ → Query → List ℕ

@@ -8,8 +8,9 @@ use Rattle.pdn_base.specs.Numbers.{number_of, value_of}
 use Rattle.pdn_base.specs.declared.site.Site.{Site}
 use Rattle.pdn_base.specs.declared.site.Site.TheVariants.{A, B}
 use Rattle.pdn_base.specs.declared.status.Status.TheVariants as status
-use Rattle.pdn_commands.specs.Script.{Script, refuse, with_inputs, with_queries, load_script}
-use Rattle.pdn_commands.specs.Answering.{queries_script}
+use Rattle.pdn_query.specs.Script.{Script, refuse}
+use Rattle.pdn_commands.specs.Script.{with_inputs, with_queries, load_script}
+use Rattle.pdn_commands.specs.Running.{queries_script}
 use Rattle.pdn_commands.specs.Checking.{report_script}
 use Rattle.pdn_commands.specs.declared.command.Command.{Command}
 use Rattle.pdn_commands.specs.declared.command.Command.TheVariants as command

@@ -1,9 +1,5 @@
-pub mod Questions
-pub mod World
 pub mod Script
-pub mod Walk
-pub mod Answering
-pub mod Gathering
+pub mod Running
 pub mod Checking
 pub mod Commands
 pub mod Causes

@@ -1,23 +1,14 @@
--- What a command should do, from its words alone: what it asks, what it makes of each reply, what it says.
-use Rattle.std.specs.Prelude.{ℕ, ◌+◌, List, [], ◌∷◌, ◌++◌, length, position, Option, Some, None, Result, Ok, Err, codes, decimal}
-use Rattle.std.specs.List.{slice_get}
+-- What a command reads first, and what a load should do.
+use Rattle.std.specs.Prelude.{ℕ, List, [], ◌∷◌, ◌++◌, length, position, Option, Some, None, Result, Ok, Err, codes, decimal}
 use Rattle.std.specs.Str.{bytes_eq}
-pub use Rattle.pdn_script.specs.Scripts.{Finish, Refuse, Say, Ask, refuse}
-use Rattle.pdn_script.specs.Scripts.{Script as Tree}
 use Rattle.pdn_base.specs.Texts.{line, refusal}
-use Rattle.pdn_base.specs.declared.status.Status.{Status}
 use Rattle.pdn_base.specs.declared.status.Status.TheVariants as status
 use Rattle.pdn_base.specs.declared.site.Site.{Site}
 use Rattle.pdn_base.specs.declared.value.Value.{Value}
 use Rattle.pdn_schema.specs.Models.{SchemaModel, TableModel, table_of}
-use Rattle.pdn_schema.specs.declared.schema.Column.{Column}
 use Rattle.pdn_sql.specs.declared.query.Query.{Query}
-use Rattle.pdn_tree.specs.Plans.{PlanModel}
-use Rattle.pdn_commands.specs.Questions.{Question, File, Batch, SchemaIn, QueriesIn, Bound, RowsIn, Reply, Unbound, Broken, Hidden, Answer, New, Again, Differs, OverRows, OverPer}
-
--- a script of these questions
-abbrev pub Script : Type 0
-Script = Tree Question Reply
+use Rattle.pdn_query.specs.Questions.{File, Batch, SchemaIn, QueriesIn, RowsIn, Answer, New, Again, Differs, OverRows, OverPer}
+use Rattle.pdn_query.specs.Script.{Script, Finish, Refuse, Say, Ask, refuse, or_fault, column_name}
 
 -- what follows a read, or the refusal where there is no such file
 abbrev pub found : List ℕ → (List ℕ → Script) → Option (List ℕ) → Script
@@ -26,11 +17,6 @@ found name next (Some bytes) = next bytes
 
 abbrev pub reading : List ℕ → (List ℕ → Script) → Script
 reading name next = Ask (File name) (found name next)
-
--- what follows what was read, or the refusal that names the place and the cause of its first fault
-abbrev pub or_fault : {X : Type 0} → (ℕ → ℕ → Status) → (X → Script) → Result X (ℕ × ℕ) → Script
-or_fault fault next (Ok x) = next x
-or_fault fault next (Err at) = refuse (fault at.0 at.1)
 
 -- the schema that bytes say
 abbrev pub with_schema : List ℕ → (SchemaModel → Script) → Script
@@ -44,30 +30,9 @@ with_inputs name next = reading (codes "net.schema") (λ net. reading name (λ t
 abbrev pub with_queries : List ℕ → (List Query → Script) → Script
 with_queries bytes next = Ask (QueriesIn bytes) (or_fault status.Sql next)
 
--- the refusal of a query that has no plan
-abbrev pub refuse_unbound : Unbound → Script
-refuse_unbound (Broken kind name) = refuse (status.Plan kind name)
-refuse_unbound (Hidden column label) = refuse (status.Forbidden column label)
-
--- what follows a query's plan, or that refusal
-abbrev pub or_unbound : (PlanModel → Script) → Result PlanModel Unbound → Script
-or_unbound next (Ok plan) = next plan
-or_unbound next (Err why) = refuse_unbound why
-
-abbrev pub binding : SchemaModel → Query → (PlanModel → Script) → Script
-binding s query next = Ask (Bound s query) (or_unbound next)
-
 -- the number of the table of this name
 abbrev pub table_number : List ℕ → SchemaModel → Option ℕ
 table_number name s = position (λ (t : TableModel). bytes_eq t.name name) s.tables
-
--- the name of a column, or its number where there is none
-abbrev pub name_or : ℕ → Option Column → List ℕ
-name_or at None = decimal at
-name_or at (Some column) = column.name
-
-abbrev pub column_name : TableModel → ℕ → List ℕ
-column_name t at = name_or at (slice_get t.columns at)
 
 -- ---- load
 

@@ -3,15 +3,16 @@ ghost use Rattle.std.specs.Prelude.{◌≡◌, ◌<◌, ◌+◌, ◌++◌, ◌^�
 ghost use Rattle.std.specs.String.{string_bytes};
 ghost use Rattle.pdn_commands.specs.Checking.{query_line, column_line, column_lines, dotted, leaf_text, leaves_text, segment_line, segment_lines, query_report, query_reporting, reporting};
 ghost use Rattle.pdn_commands.specs.Commands.{check_script};
-ghost use Rattle.pdn_commands.specs.Script.{Script, column_name};
-ghost use Rattle.pdn_commands.specs.Walk.{Came, Along};
-ghost use Rattle.pdn_commands.specs.World.{WorldModel};
+ghost use Rattle.pdn_query.specs.Script.{Script, column_name};
+ghost use Rattle.pdn_query.specs.Walk.{Came, Along};
+ghost use Rattle.pdn_query.specs.World.{WorldModel};
 ghost use Rattle.pdn_script.specs.Stops.{end_of};
 
-use crate::answer_text::query_name;
-use crate::bound::bound;
-use crate::inputs::{column_name, queries_of, read_inputs};
-use crate::world::{Outside, say};
+use pdn_query::query_name;
+use pdn_query::bound;
+use crate::inputs::{queries_of, read_inputs};
+use pdn_query::column_name;
+use pdn_query::{Outside, say};
 use pdn_base::Memory;
 use pdn_level::{Leaf, Segment, levels};
 use pdn_plan::{OutColumn, Plan};

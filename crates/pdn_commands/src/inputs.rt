@@ -6,12 +6,13 @@ ghost use Rattle.std.specs.Option.{IfSome};
 ghost use Rattle.pdn_schema.specs.Models.{SchemaModel, TableModel};
 ghost use Rattle.pdn_sql.specs.Reading.{Says as SaysQueries};
 ghost use Rattle.pdn_sql.specs.declared.query.Query.{Query as QueryModel};
-ghost use Rattle.pdn_commands.specs.Script.{Script, reading, with_schema, with_inputs, with_queries, table_number, column_name};
-ghost use Rattle.pdn_commands.specs.Walk.{Came};
-ghost use Rattle.pdn_commands.specs.World.{WorldModel};
+ghost use Rattle.pdn_query.specs.Script.{Script, column_name};
+ghost use Rattle.pdn_commands.specs.Script.{reading, with_schema, with_inputs, with_queries, table_number};
+ghost use Rattle.pdn_query.specs.Walk.{Came};
+ghost use Rattle.pdn_query.specs.World.{WorldModel};
 ghost use Rattle.pdn_script.specs.Stops.{IsRefusal};
 
-use crate::world::Outside;
+use pdn_query::Outside;
 use pdn_base::{FileErr, Memory, Name, Status, Who};
 use pdn_schema::{Schema, SchemaErr, Table, read_schema};
 use pdn_script::{Stop, refused};
@@ -113,14 +114,4 @@ fn table_place(tables: &[Table], name: &str) -> Option<usize>
     ensures in_range { IfSome result (λ at. at < length tables.now) }
 {
     tables.iter().position(|table| table.name.as_str() == name)
-}
-
-/// The name of a column, or its number where there is none.
-pub fn column_name(alloc: Global, table: &Table, column: u32) -> Result<String, Memory>
-    ensures { IfOk result (λ name. string_bytes name ≡ column_name table.now column) }
-{
-    match table.columns.get(column as usize) {
-        Some(column) => Ok(String::from_str(alloc, column.name.as_str())?),
-        None => Ok(format!(in alloc; "{column}")?),
-    }
 }

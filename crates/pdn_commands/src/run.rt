@@ -2,15 +2,16 @@
 ghost use Rattle.std.specs.Prelude.{◌≡◌, ◌<◌, ◌^◌, length};
 ghost use Rattle.std.specs.List.{AllByRecursion};
 ghost use Rattle.pdn_plan.specs.Answer.{IsWritten};
-ghost use Rattle.pdn_commands.specs.Answering.{query_script, queries_script};
+ghost use Rattle.pdn_query.specs.Answering.{query_script};
+ghost use Rattle.pdn_commands.specs.Running.{queries_script};
 ghost use Rattle.pdn_commands.specs.Commands.{run_script};
-ghost use Rattle.pdn_commands.specs.Script.{Script};
-ghost use Rattle.pdn_commands.specs.Walk.{Came, Along};
+ghost use Rattle.pdn_query.specs.Script.{Script};
+ghost use Rattle.pdn_query.specs.Walk.{Came, Along};
 ghost use Rattle.pdn_script.specs.Stops.{end_of};
 
-use crate::answer::{Numbered, query_answer};
+use pdn_query::{Numbered, query_answer};
 use crate::inputs::{MOST_QUERIES, queries_of, read_inputs};
-use crate::world::{Outside, say};
+use pdn_query::{Outside, say};
 use pdn_dealer::Deal;
 use pdn_plan::texts_are_written;
 use pdn_schema::Schema;

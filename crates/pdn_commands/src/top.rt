@@ -5,15 +5,15 @@ ghost use Rattle.pdn_base.specs.declared.site.Site.TheVariants.{A, B};
 ghost use Rattle.pdn_base.specs.declared.status.Who.{Who};
 ghost use Rattle.pdn_commands.specs.Causes.{Cause, IsDone};
 ghost use Rattle.pdn_commands.specs.Commands.{script, task_of, loads};
-ghost use Rattle.pdn_commands.specs.Walk.{Along, Answered, NoMemory, Wrote, Clears, IsDue};
-ghost use Rattle.pdn_commands.specs.World.{RoseIn, NotFallen};
+ghost use Rattle.pdn_query.specs.Walk.{Along, Answered, NoMemory, Wrote, Clears, IsDue};
+ghost use Rattle.pdn_query.specs.World.{RoseIn, NotFallen};
 ghost use Rattle.pdn_script.specs.Stops.{end_of};
 
 use crate::check::check;
 use crate::command::{Command, read_command};
 use crate::load::{BatchFile, load};
 use crate::run::run;
-use crate::world::Outside;
+use pdn_query::Outside;
 use pdn_base::Status;
 use pdn_dealer::Deal;
 use pdn_script::{Stop, refused};

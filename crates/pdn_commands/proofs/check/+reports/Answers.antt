@@ -2,7 +2,7 @@ use Rattle.std.proofs.Common.{◌≡◌, ◌+◌, ◌++◌, ◌∷◌, [], rules
 use Rattle.std.proofs.lemmas.List.{nil_from_length}
 use Rattle.std.proofs.lemmas.Result.{err_from_is_err_and}
 use Rattle.pdn_commands.specs.Checking.{reporting}
-use Rattle.pdn_commands.proofs.Walks.{leads_on, leads_along, begun, halted}
+use Rattle.pdn_query.proofs.Walks.{leads_on, leads_along, begun, halted}
 use Rattle.pdn_commands.proofs.check.+reports.Goals as goal
 
 pub returns-in_default : goal.returns-in_default

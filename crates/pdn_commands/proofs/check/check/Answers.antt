@@ -1,6 +1,6 @@
 use Rattle.std.proofs.Common.{refl, rules}
 use Rattle.std.proofs.lemmas.Result.{err_from_is_err_and}
-use Rattle.pdn_commands.proofs.Walks.{leads_along, came_end, halted}
+use Rattle.pdn_query.proofs.Walks.{leads_along, came_end, halted}
 use Rattle.pdn_commands.proofs.check.check.Goals as goal
 
 pub returns-in_err-inputs-clause-goes : goal.returns-in_err-inputs-clause-goes

@@ -1,7 +1,7 @@
 use Rattle.std.proofs.Common.{refl}
 use Rattle.std.proofs.lemmas.Result.{err_from_is_err_and}
 use Rattle.pdn_commands.specs.Checking.{query_reporting}
-use Rattle.pdn_commands.proofs.Walks.{halted}
+use Rattle.pdn_query.proofs.Walks.{halted}
 use Rattle.pdn_commands.proofs.check.report.Goals as goal
 
 pub returns-in_err-plan : goal.returns-in_err-plan

@@ -1,8 +1,9 @@
 use Rattle.std.proofs.Common.{[], refl, Ok, Err}
 use Rattle.pdn_base.specs.declared.status.Status.TheVariants as status
-use Rattle.pdn_commands.specs.Questions.{QueriesIn}
-use Rattle.pdn_commands.specs.Script.{or_fault, with_queries}
-use Rattle.pdn_commands.proofs.Walks.{leads_along, known, refused, halted}
+use Rattle.pdn_query.specs.Questions.{QueriesIn}
+use Rattle.pdn_query.specs.Script.{or_fault}
+use Rattle.pdn_commands.specs.Script.{with_queries}
+use Rattle.pdn_query.proofs.Walks.{leads_along, known, refused, halted}
 use Rattle.pdn_commands.proofs.inputs.queries_of.Goals as goal
 
 pub returns-in-Ok-clause-came : goal.returns-in-Ok-clause-came

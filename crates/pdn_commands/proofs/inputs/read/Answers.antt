@@ -2,7 +2,7 @@ use Rattle.std.proofs.Common.{[], refl}
 use Rattle.pdn_base.specs.declared.status.Status.TheVariants as status
 use Rattle.pdn_base.specs.declared.status.Who.TheVariants.{Files}
 use Rattle.pdn_commands.specs.Script.{found, reading}
-use Rattle.pdn_commands.proofs.Walks.{leads_along, replied, faulted_by, spent, refused}
+use Rattle.pdn_query.proofs.Walks.{leads_along, replied, faulted_by, spent, refused}
 use Rattle.pdn_commands.proofs.inputs.read.Goals as goal
 
 pub returns-in-Ok-clause-came : goal.returns-in-Ok-clause-came

@@ -1,5 +1,5 @@
 use Rattle.std.proofs.lemmas.Result.{err_from_is_err_and}
-use Rattle.pdn_commands.proofs.Walks.{leads_on, leads_along}
+use Rattle.pdn_query.proofs.Walks.{leads_on, leads_along}
 use Rattle.pdn_commands.proofs.inputs.read_inputs.Goals as goal
 
 pub returns-in_err-net-clause-came : goal.returns-in_err-net-clause-came

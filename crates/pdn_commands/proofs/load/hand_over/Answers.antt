@@ -2,9 +2,10 @@ use Rattle.std.proofs.Common.{[], None, Some, length, refl}
 use Rattle.std.proofs.lemmas.Result.{err_from_is_err_and}
 use Rattle.pdn_base.specs.declared.status.Status.TheVariants as status
 use Rattle.pdn_schema.specs.Models.{table_of}
-use Rattle.pdn_commands.specs.Questions.{who_of}
-use Rattle.pdn_commands.specs.Script.{answered, handing, column_name}
-use Rattle.pdn_commands.proofs.Walks.{leads_along, replied, faulted, spent, halted, refused}
+use Rattle.pdn_query.specs.Questions.{who_of}
+use Rattle.pdn_query.specs.Script.{column_name}
+use Rattle.pdn_commands.specs.Script.{answered, handing}
+use Rattle.pdn_query.proofs.Walks.{leads_along, replied, faulted, spent, halted, refused}
 use Rattle.pdn_commands.proofs.load.hand_over.Goals as goal
 
 pub returns-in_err-new-clause-came : goal.returns-in_err-new-clause-came

@@ -2,8 +2,9 @@ use Rattle.std.proofs.Common.{◌≡◌, [], None, Some, rules, refl}
 use Rattle.std.proofs.lemmas.Result.{err_from_is_err_and}
 use Rattle.pdn_base.specs.declared.status.Status.TheVariants as status
 use Rattle.pdn_schema.specs.Models.{table_of}
-use Rattle.pdn_commands.specs.Script.{Say, Finish, handing, table_number}
-use Rattle.pdn_commands.proofs.Walks.{leads_along, came_end, refused}
+use Rattle.pdn_query.specs.Script.{Say, Finish}
+use Rattle.pdn_commands.specs.Script.{handing, table_number}
+use Rattle.pdn_query.proofs.Walks.{leads_along, came_end, refused}
 use Rattle.pdn_commands.proofs.load.load.Goals as goal
 
 pub returns-in_err-inputs-clause-goes : goal.returns-in_err-inputs-clause-goes

@@ -1,9 +1,10 @@
 use Rattle.std.proofs.Common.{[], refl, Ok, Err}
 use Rattle.pdn_base.specs.declared.status.Status.TheVariants as status
 use Rattle.pdn_schema.specs.Models.{table_of}
-use Rattle.pdn_commands.specs.Questions.{RowsIn}
-use Rattle.pdn_commands.specs.Script.{or_fault, importing}
-use Rattle.pdn_commands.proofs.Walks.{leads_along, known, refused, halted}
+use Rattle.pdn_query.specs.Questions.{RowsIn}
+use Rattle.pdn_query.specs.Script.{or_fault}
+use Rattle.pdn_commands.specs.Script.{importing}
+use Rattle.pdn_query.proofs.Walks.{leads_along, known, refused, halted}
 use Rattle.pdn_commands.proofs.load.rows_of.Goals as goal
 
 pub returns-in-Ok : goal.returns-in-Ok

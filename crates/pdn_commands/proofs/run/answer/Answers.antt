@@ -1,6 +1,6 @@
 use Rattle.std.proofs.lemmas.Result.{err_from_is_err_and}
-use Rattle.pdn_commands.specs.Script.{Say}
-use Rattle.pdn_commands.proofs.Walks.{came_on}
+use Rattle.pdn_query.specs.Script.{Say}
+use Rattle.pdn_query.proofs.Walks.{came_on}
 use Rattle.pdn_commands.proofs.run.answer.Goals as goal
 
 pub returns-in_err-text-clause-came : goal.returns-in_err-text-clause-came

@@ -1,7 +1,7 @@
 use Rattle.std.proofs.Common.{refl, ◌∙◌}
 use Rattle.std.proofs.lemmas.Result.{err_from_is_err_and}
-use Rattle.pdn_commands.proofs.Gathers.{query_on, query_stopped, queries_done}
-use Rattle.pdn_commands.proofs.Walks.{begun}
+use Rattle.pdn_commands.proofs.Runs.{query_on, query_stopped, queries_done}
+use Rattle.pdn_query.proofs.Walks.{begun}
 use Rattle.pdn_commands.proofs.run.answer_all.Goals as goal
 
 pub loop-i-init : goal.loop-i-init

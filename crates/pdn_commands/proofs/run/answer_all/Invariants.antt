@@ -1,6 +1,6 @@
 use Rattle.std.proofs.Common.{◌≡◌, ◌+◌, drop}
-use Rattle.pdn_commands.specs.Answering.{queries_script}
-use Rattle.pdn_commands.specs.Walk.{Leads}
+use Rattle.pdn_commands.specs.Running.{queries_script}
+use Rattle.pdn_query.specs.Walk.{Leads}
 use Rattle.pdn_commands.proofs.run.answer_all.Given as goal
 
 abbrev pub invariant-loop-i : goal.invariant-loop-i

@@ -1,5 +1,5 @@
 use Rattle.std.proofs.lemmas.Result.{err_from_is_err_and}
-use Rattle.pdn_commands.proofs.Walks.{leads_along}
+use Rattle.pdn_query.proofs.Walks.{leads_along}
 use Rattle.pdn_commands.proofs.run.run.Goals as goal
 
 pub returns-in_err-inputs-clause-goes : goal.returns-in_err-inputs-clause-goes

@@ -1,8 +1,8 @@
 use Rattle.std.proofs.Common.{rules, map, Some}
 use Rattle.std.specs.String.{string_bytes}
 use Rattle.pdn_commands.specs.Commands.{Run, Check, Load}
-use Rattle.pdn_commands.proofs.Walks.{asked}
-use Rattle.pdn_commands.proofs.Worlds.{kept_a, kept_b}
+use Rattle.pdn_commands.proofs.Tasks.{asked}
+use Rattle.pdn_commands.proofs.Tasks.{kept_a, kept_b}
 use Rattle.pdn_commands.proofs.top.follow.Goals as goal
 
 pub returns-in-Some-Run-clause-goes : goal.returns-in-Some-Run-clause-goes

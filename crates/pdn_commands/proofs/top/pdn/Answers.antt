@@ -3,8 +3,8 @@ use Rattle.std.specs.String.{string_bytes}
 use Rattle.pdn_script.proofs.Due.{written_due}
 use Rattle.pdn_script.proofs.Ends.{completes}
 use Rattle.pdn_commands.specs.Commands.{script}
-use Rattle.pdn_commands.specs.Questions.{questions}
-use Rattle.pdn_commands.specs.World.{WorldModel, RoseIn}
+use Rattle.pdn_query.specs.Questions.{questions}
+use Rattle.pdn_query.specs.World.{WorldModel, RoseIn}
 use Rattle.pdn_commands.proofs.Causes.{caused, does}
 use Rattle.pdn_commands.proofs.top.pdn.Goals as goal
 

@@ -2,7 +2,7 @@ use Rattle.std.proofs.Common.{map, ◌∙◌}
 use Rattle.std.specs.String.{string_bytes}
 use Rattle.pdn_commands.specs.Commands.{script}
 use Rattle.pdn_commands.proofs.Causes.{spent_end}
-use Rattle.pdn_commands.proofs.Walks.{answered, not_fallen}
+use Rattle.pdn_query.proofs.Walks.{answered, not_fallen}
 use Rattle.pdn_commands.proofs.top.perform.Goals as goal
 
 pub returns-clause-answers : goal.returns-clause-answers
