@@ -1,5 +1,5 @@
 -- The causes of a command's statuses, and what Done comes with.
-use Rattle.std.proofs.Common.{◌≡◌, ℕ, zero, suc, ◌+◌, ◌<◌, ◌++◌, List, [], ◌∷◌, length, take, get_or, arith, None, Some, Option, Result, Ok, Err, inl, inr, ◌⊎◌, refl, sym, subst, ap, ◌∙◌, append-nil, append_assoc}
+use Rattle.std.proofs.Common.{◌≡◌, ℕ, suc, ◌+◌, ◌<◌, ◌++◌, List, [], ◌∷◌, length, take, get_or, arith, None, Some, Option, Result, Ok, Err, inl, inr, ◌⊎◌, refl, sym, subst, ◌∙◌, append-nil, append_assoc}
 use Rattle.std.specs.Prelude.{Bool, true, false, codes}
 use Rattle.std.specs.List.{AllByRecursion}
 use Rattle.pdn_base.specs.declared.rows_err.RowsErr.{RowsErr}
@@ -21,11 +21,11 @@ use Rattle.pdn_site.specs.Models.{UnitModel}
 use Rattle.pdn_site.specs.Compiling.{Compiled}
 use Rattle.pdn_schema.specs.Printing.{text_of}
 use Rattle.pdn_commands.specs.Checking.{reporting, query_report, AreReported}
-use Rattle.pdn_commands.specs.Causes.{AskedRun, AskedQueries, AskedCheck, AskedReports, AskedLoad, AskedTable, Inputs, IsReached, IsAsked, IsFirstWrong, AreWrong, Cause, IsLoaded, IsDone, file_of}
+use Rattle.pdn_commands.specs.Causes.{AskedRun, AskedQueries, AskedCheck, AskedReports, AskedLoad, AskedTable, Inputs, IsReached, IsAsked, AreWrong, Cause, IsDone, file_of}
 use Rattle.pdn_commands.specs.Commands.{Task, Run, Check, Load, task_of, task_script, script}
 use Rattle.pdn_query.specs.Answering.{scans, asking_if, asking, or_wrong, judging, units_over, or_large, answer_text, answering, KeepsIf, KeepsAll, AllValid, IsTaken, IsAnswer}
 use Rattle.pdn_commands.specs.Running.{queries_script, AreAnswers}
-use Rattle.pdn_query.specs.Questions.{Told, Unbound, Broken, Hidden, IsBound, Holds, Valid, IsWrong, kept_at, IsSchemaIn, AreQueriesIn, AreRowsIn, Answer, New, Again, Differs, OverRows, OverPer, Batch, Gives, after, questions}
+use Rattle.pdn_query.specs.Questions.{Told, Unbound, Broken, Hidden, IsBound, Holds, IsWrong, kept_at, IsSchemaIn, AreQueriesIn, AreRowsIn, Answer, New, Again, Differs, OverRows, OverPer, Batch, Gives, after, questions}
 use Rattle.pdn_query.specs.Script.{Script, Finish, Refuse, Say, Ask, or_fault, or_unbound}
 use Rattle.pdn_commands.specs.Script.{found, with_inputs, answered, load_table, table_number}
 use Rattle.pdn_query.specs.Walk.{Refusals, Texts, Follows, End, NoMemory, Closes, Wrote, Along}

@@ -1,5 +1,5 @@
 -- When each status may be answered.
-use Rattle.std.specs.Prelude.{◌≡◌, ◌⊎◌, ◌<◌, ℕ, List, [], ◌∷◌, ◌++◌, length, take, get_or, None, Some, Option, Result, Ok, Err, codes}
+use Rattle.std.specs.Prelude.{◌≡◌, ◌⊎◌, ◌<◌, ℕ, List, [], ◌∷◌, ◌++◌, length, take, get_or, None, Some, Option, Ok, Err, codes}
 use Rattle.std.specs.List.{AllByRecursion}
 use Rattle.pdn_base.specs.declared.rows_err.RowsErr.{RowsErr}
 use Rattle.pdn_base.specs.declared.site.Site.{Site}
@@ -19,7 +19,7 @@ use Rattle.pdn_commands.specs.Running.{AreAnswers}
 use Rattle.pdn_commands.specs.Checking.{AreReported}
 use Rattle.pdn_schema.specs.Printing.{text_of}
 use Rattle.pdn_tree.specs.Plans.{PlanModel}
-use Rattle.pdn_query.specs.Questions.{Told, Unbound, Broken, Hidden, IsBound, Holds, Answer, New, Again, Differs, OverRows, OverPer, Batch, Gives, kept_at, with_new, IsSchemaIn, AreQueriesIn, AreRowsIn}
+use Rattle.pdn_query.specs.Questions.{Told, Unbound, Broken, Hidden, IsBound, Holds, Answer, New, Again, Differs, OverRows, OverPer, Batch, Gives, with_new, IsSchemaIn, AreQueriesIn, AreRowsIn}
 use Rattle.pdn_commands.specs.Script.{table_number, loaded_text}
 use Rattle.pdn_keeper.specs.Batches.{batch_held}
 

@@ -1,5 +1,5 @@
 -- What a command reads first, and what a load should do.
-use Rattle.std.specs.Prelude.{ℕ, List, [], ◌∷◌, ◌++◌, length, position, Option, Some, None, Result, Ok, Err, codes, decimal}
+use Rattle.std.specs.Prelude.{ℕ, List, ◌++◌, length, position, Option, Some, None, codes, decimal}
 use Rattle.std.specs.Str.{bytes_eq}
 use Rattle.pdn_base.specs.Texts.{line, refusal}
 use Rattle.pdn_base.specs.declared.status.Status.TheVariants as status

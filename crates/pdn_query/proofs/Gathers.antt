@@ -1,5 +1,5 @@
 -- Going along the script of queries.
-use Rattle.std.proofs.Common.{◌≡◌, ℕ, suc, zero, ◌+◌, ◌≤◌, ◌<◌, ◌++◌, List, [], ◌∷◌, length, drop, get_or, refl, sym, subst, ap, ◌∙◌, None, Some, Ok, inl, inr, ◌⊎◌, arith, append-nil, append_assoc}
+use Rattle.std.proofs.Common.{◌≡◌, ℕ, suc, zero, ◌+◌, ◌≤◌, ◌<◌, ◌++◌, List, [], ◌∷◌, length, drop, get_or, refl, sym, subst, ap, ◌∙◌, None, Some, Ok, inl, inr, arith, append-nil, append_assoc}
 use Rattle.std.proofs.lemmas.List.{drop_more, drop_all}
 use Rattle.std.specs.Prelude.{Bool, true, false}
 use Rattle.pdn_base.specs.Operators.{Rows}
@@ -10,20 +10,19 @@ use Rattle.pdn_schema.specs.Models.{SchemaModel, TableModel, no_table}
 use Rattle.pdn_schema.specs.Rows.{IsValid, AreValid, union}
 use Rattle.pdn_sql.specs.declared.query.Query.{Query}
 use Rattle.pdn_plan.specs.Answer.{answer}
-use Rattle.pdn_tree.specs.Plans.{PlanModel}
 use Rattle.pdn_tree.specs.declared.node.Node.{Node}
 use Rattle.pdn_tree.specs.declared.plan.OutColumn.{OutColumn}
 use Rattle.pdn_site.specs.Models.{UnitModel}
 use Rattle.pdn_site.specs.Compiling.{Compiled}
 use Rattle.pdn_script.specs.Stops.{IsRefusal, stop_of}
 use Rattle.pdn_script.specs.declared.stop.Stop.{Stop}
-use Rattle.pdn_query.specs.Answering.{scans, asking_if, asking, wrong_column, or_wrong, judging, units_over, or_large, judging_both, answer_text, query_script, AllValid}
+use Rattle.pdn_query.specs.Answering.{scans, asking_if, asking, wrong_column, or_wrong, judging, units_over, or_large, judging_both, answer_text, AllValid}
 use Rattle.pdn_query.specs.Gathering.{WrongRows, WrongTable, LargeUnit, NotReady, IsMeant}
 use Rattle.pdn_query.specs.Questions.{Valid}
 use Rattle.pdn_query.specs.Script.{Script}
-use Rattle.pdn_query.specs.Walk.{End, Finished, NoMemory, Along, Leads}
+use Rattle.pdn_query.specs.Walk.{End, NoMemory, Along, Leads}
 use Rattle.pdn_query.specs.World.{WorldModel}
-use Rattle.pdn_query.proofs.Walks.{leads_on, leads_along, begun, finished, halted, known, refused}
+use Rattle.pdn_query.proofs.Walks.{leads_on, leads_along, begun, halted, known, refused}
 
 -- ---- the rows that a site gives
 

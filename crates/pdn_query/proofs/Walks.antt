@@ -1,5 +1,5 @@
 -- Going along a script from world to world.
-use Rattle.std.proofs.Common.{◌≡◌, ℕ, ◌+◌, ◌≤◌, ◌++◌, List, [], refl, sym, subst, None, Some, Option, Result, Ok, Err, inl, inr, ◌⊎◌, arith, take, append_assoc}
+use Rattle.std.proofs.Common.{◌≡◌, ℕ, ◌++◌, List, [], refl, subst, Some, Result, Ok, Err, inl, inr, arith, take, append_assoc}
 use Rattle.std.specs.Io.KnownBytes.{Appends}
 use Rattle.pdn_base.specs.Texts.{refusal}
 use Rattle.pdn_base.specs.declared.status.Status.{Status}
@@ -9,7 +9,7 @@ use Rattle.pdn_base.specs.declared.status.Who.TheVariants.{Files, SiteA, SiteB, 
 use Rattle.pdn_script.specs.Stops.{IsRefusal, stop_of, end_of}
 use Rattle.pdn_script.specs.declared.stop.Stop.{Stop}
 use Rattle.pdn_script.proofs.Going.{refused_by, appends_nothing, appends_both, goes_within, out_of_memory, concluded}
-use Rattle.pdn_query.specs.Questions.{Question, Reply, Told, Gives, after, asked_of, AfterFault, questions}
+use Rattle.pdn_query.specs.Questions.{Question, Reply, Told, Gives, after, asked_of, questions}
 use Rattle.pdn_query.specs.Script.{Script, Finish, Refuse, Say, Ask}
 use Rattle.pdn_query.specs.Walk.{Goes, End, Finished, NoMemory, PutFailed, fault, Closes, Wrote, Along, Leads, Came, Answered}
 use Rattle.pdn_query.specs.World.{WorldModel, Counts, RoseIn, NotFallen, Beside, Replied, Faulted, Short, Put, Cut}

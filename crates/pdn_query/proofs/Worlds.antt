@@ -1,6 +1,6 @@
 -- What calls of the objects outside leave of the world.
-use Rattle.std.proofs.Common.{◌≡◌, ℕ, List, refl, sym, ◌∙◌, ap, subst, None, Some, Option, Result, Ok, Err, inl, inr, ◌⊎◌}
-use Rattle.std.specs.Prelude.{IfSome, IsErrOf, MatchResult, false}
+use Rattle.std.proofs.Common.{◌≡◌, ℕ, List, refl, ◌∙◌, ap, subst, None, Some, Option, Result, Ok, Err, inl, inr, ◌⊎◌}
+use Rattle.std.specs.Prelude.{IfSome, IsErrOf, MatchResult}
 use Rattle.pdn_base.specs.declared.site.Site.{Site}
 use Rattle.pdn_base.specs.declared.site.Site.TheVariants.{A, B}
 use Rattle.pdn_base.specs.declared.status.Who.{Who}
@@ -11,8 +11,8 @@ use Rattle.pdn_keeper.specs.declared.site_keeper.Added.{Added}
 use Rattle.pdn_keeper.specs.declared.site_keeper.Added.TheVariants as added
 use Rattle.pdn_keeper.specs.declared.site_keeper.AddErr.{AddErr}
 use Rattle.pdn_keeper.specs.declared.site_keeper.AddErr.TheVariants as unadded
-use Rattle.pdn_query.specs.Questions.{Batch, Told, New, Again, Differs, OverRows, OverPer, AfterFault, OnlyAt, who_of, kept_at, with_kept, with_new}
-use Rattle.pdn_query.specs.World.{WorldModel, RoseIn, Beside, Replied, Faulted, Short, answer_of, NotAdded}
+use Rattle.pdn_query.specs.Questions.{Batch, Told, AfterFault, who_of, kept_at, with_kept, with_new}
+use Rattle.pdn_query.specs.World.{WorldModel, RoseIn, Beside, Replied, answer_of, NotAdded}
 
 same_kept : (told : Told) (site : Site) (new : Option (List BatchHeld)) → new ≡ kept_at told site → with_kept told site new ≡ told
 same_kept told A new e = ap (λ (held : Option (List BatchHeld)). with_kept told A held) e

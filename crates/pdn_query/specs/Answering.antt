@@ -25,7 +25,7 @@ use Rattle.pdn_site.specs.Compiling.{Compiled, compiled}
 use Rattle.pdn_site.specs.NetMeaning.{site_dirs}
 use Rattle.pdn_keeper.specs.Batches.{BatchHeld}
 use Rattle.pdn_query.specs.Questions.{Kept, Valid, Keeps, IsBound}
-use Rattle.pdn_query.specs.Script.{Script, Finish, Refuse, Say, Ask, refuse, binding, column_name}
+use Rattle.pdn_query.specs.Script.{Script, Refuse, Say, Ask, refuse, binding, column_name}
 
 -- ---- the rows that are asked for
 

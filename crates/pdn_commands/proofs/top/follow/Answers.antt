@@ -1,4 +1,4 @@
-use Rattle.std.proofs.Common.{rules, map, Some}
+use Rattle.std.proofs.Common.{map, Some}
 use Rattle.std.specs.String.{string_bytes}
 use Rattle.pdn_commands.specs.Commands.{Run, Check, Load}
 use Rattle.pdn_commands.proofs.Tasks.{asked}

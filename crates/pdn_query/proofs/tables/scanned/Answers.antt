@@ -1,4 +1,4 @@
-use Rattle.std.proofs.Common.{◌<◌, length, rules, arith, refl, ◌∙◌}
+use Rattle.std.proofs.Common.{◌<◌, length, rules, refl, ◌∙◌}
 use Rattle.std.proofs.lemmas.List.Elements.{All-push}
 use Rattle.std.proofs.lemmas.Result.{err_from_is_err_and}
 use Rattle.pdn_base.specs.Operators.{Rows}
