@@ -28,11 +28,7 @@ pub fn objects_of(alloc: Global, fails: &Fails, files: Vec<NamedFile>) -> Result
 }
 
 /// Has the sites keep the rows of their files, by the schema of `kept.schema` where that is there.
-pub fn import(
-    alloc: Global,
-    objects: &mut Objects,
-    files: Vec<NamedFile>,
-) -> Result<(), ImportErr>
+pub fn import(alloc: Global, objects: &mut Objects, files: Vec<NamedFile>) -> Result<(), ImportErr>
     requires { All (λ f. length f.1.items ≤ 536870912) files.items }
 {
     let mut files = MemFiles::new(files, Vec::new(alloc));

@@ -8,14 +8,11 @@ ghost use Rattle.pdn_query.specs.Walk.{Came, Along};
 ghost use Rattle.pdn_query.specs.World.{WorldModel};
 ghost use Rattle.pdn_script.specs.Stops.{end_of};
 
-use pdn_query::query_name;
-use pdn_query::bound;
 use crate::inputs::{queries_of, read_inputs};
-use pdn_query::column_name;
-use pdn_query::{Outside, say};
 use pdn_base::Memory;
 use pdn_level::{Leaf, Segment, levels};
 use pdn_plan::{OutColumn, Plan};
+use pdn_query::{Outside, bound, column_name, query_name, say};
 use pdn_schema::{Schema, Table, print_schema};
 use pdn_script::Stop;
 use pdn_sql::{Query, print_query};
@@ -59,7 +56,7 @@ fn reports(
 fn report(alloc: Global, schema: &Schema, number: usize, query: &Query) -> Result<Vec<u8>, Stop>
     ensures { (w : WorldModel) (next : List ℕ → Script) →
         Came w w (query_reporting schema.now number query.now next)
-            (λ text. next text.items) result }
+        (λ text. next text.items) result }
 {
     let plan = bound(alloc, schema, query)?;
     let text = query_report(alloc, schema, number, query, &plan)?;

@@ -12,8 +12,8 @@ ghost use Rattle.pdn_query.specs.Walk.{Came};
 ghost use Rattle.pdn_query.specs.World.{WorldModel};
 ghost use Rattle.pdn_script.specs.Stops.{IsRefusal};
 
-use pdn_query::Outside;
 use pdn_base::{FileErr, Memory, Name, Status, Who};
+use pdn_query::Outside;
 use pdn_schema::{Schema, SchemaErr, Table, read_schema};
 use pdn_script::{Stop, refused};
 use pdn_sql::{Query, SqlErr, read_queries};
@@ -33,7 +33,7 @@ pub struct Inputs {
 pub fn read_inputs<W: Outside>(alloc: Global, file: &str, world: &mut W) -> Result<Inputs, Stop>
     ensures came { (next : SchemaModel → List ℕ → Script) →
         Came (W.state world.old) (W.state world.new) (with_inputs file.now next)
-            (λ inputs. next inputs.schema inputs.text.items) result }
+        (λ inputs. next inputs.schema inputs.text.items) result }
     ensures size { IfOk result (λ inputs. length inputs.text.items ≤ 536870912) }
     ensures same { (W.state world.new).told ≡ (W.state world.old).told }
 {
@@ -47,7 +47,7 @@ pub fn read_inputs<W: Outside>(alloc: Global, file: &str, world: &mut W) -> Resu
 fn read<W: Outside>(alloc: Global, world: &mut W, name: &str) -> Result<Vec<u8>, Stop>
     ensures came { (next : List ℕ → Script) →
         Came (W.state world.old) (W.state world.new) (reading name.now next)
-            (λ bytes. next bytes.items) result }
+        (λ bytes. next bytes.items) result }
     ensures size { IfOk result (λ bytes. length bytes.items ≤ 536870912) }
     ensures same { (W.state world.new).told ≡ (W.state world.old).told }
 {

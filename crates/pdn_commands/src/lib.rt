@@ -8,5 +8,5 @@ mod load;
 mod run;
 mod top;
 
-pub use top::pdn;
 pub use pdn_query::{Outside, World};
+pub use top::pdn;

@@ -13,11 +13,9 @@ ghost use Rattle.pdn_query.specs.World.{WorldModel};
 ghost use Rattle.pdn_script.specs.Stops.{end_of, stop_of, IsRefusal};
 
 use crate::inputs::{read_inputs, table_number};
-use pdn_query::column_name;
-use pdn_query::who_of;
-use pdn_query::{Batch, Outside, say};
 use pdn_base::{Memory, Name, Rows, Site, Status, Who};
 use pdn_keeper::{AddErr, Added, CsvErr, import_csv};
+use pdn_query::{Batch, Outside, column_name, say, who_of};
 use pdn_schema::{Schema, Table};
 use pdn_script::{Stop, refused, refused_at};
 use std::alloc::Global;
@@ -94,9 +92,9 @@ fn hand_over<W: Outside>(
     requires { batch.table < length schema.now.tables }
     ensures came { (next : List ℕ → Script) →
         Came (W.state world.old) (W.state world.new)
-            (handing site (table_of schema.now batch.entry.table) batch.entry.number
-                batch.entry.rows.now next)
-            (λ text. next (string_bytes text)) result }
+        (handing site (table_of schema.now batch.entry.table) batch.entry.number
+        batch.entry.rows.now next)
+        (λ text. next (string_bytes text)) result }
     ensures only { OnlyAt site (W.state world.old).told (W.state world.new).told }
     ensures spared { IfErr result (λ stop. stop_of stop ≡ NoMemory
         → (W.state world.new).told ≡ (W.state world.old).told) }

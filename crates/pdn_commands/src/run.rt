@@ -9,11 +9,10 @@ ghost use Rattle.pdn_query.specs.Script.{Script};
 ghost use Rattle.pdn_query.specs.Walk.{Came, Along};
 ghost use Rattle.pdn_script.specs.Stops.{end_of};
 
-use pdn_query::{Numbered, query_answer};
 use crate::inputs::{MOST_QUERIES, queries_of, read_inputs};
-use pdn_query::{Outside, say};
 use pdn_dealer::Deal;
 use pdn_plan::texts_are_written;
+use pdn_query::{Numbered, Outside, query_answer, say};
 use pdn_schema::Schema;
 use pdn_script::Stop;
 use pdn_sql::Query;
@@ -71,9 +70,9 @@ fn answer<W: Outside, D: Deal>(
     requires written { IsWritten asked.query.now }
     ensures came { (rest : Script) →
         Came (W.state world.old) (W.state world.new)
-            (query_script schema.now asked.entry.number asked.entry.ticket
-                asked.entry.query.now rest)
-            (λ _. rest) result }
+        (query_script schema.now asked.entry.number asked.entry.ticket
+        asked.entry.query.now rest)
+        (λ _. rest) result }
     ensures same { (W.state world.new).told ≡ (W.state world.old).told }
 {
     let text = query_answer(alloc, schema, asked, world, deal)?;

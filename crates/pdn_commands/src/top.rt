@@ -13,20 +13,15 @@ use crate::check::check;
 use crate::command::{Command, read_command};
 use crate::load::{BatchFile, load};
 use crate::run::run;
-use pdn_query::Outside;
 use pdn_base::Status;
 use pdn_dealer::Deal;
+use pdn_query::Outside;
 use pdn_script::{Stop, refused};
 use std::alloc::Global;
 
 /// Does what the words of a command line say, over these files and the rows that the sites keep, and puts the answers or
 /// the line of the first refusal on the sink. What is put is the same whatever words the dealer deals.
-pub fn pdn<W: Outside, D: Deal>(
-    alloc: Global,
-    words: &[String],
-    world: &mut W,
-    deal: &D,
-) -> Status
+pub fn pdn<W: Outside, D: Deal>(alloc: Global, words: &[String], world: &mut W, deal: &D) -> Status
     // What is put, answered and kept is what the script says, but for want of memory and for faults of an object whose
     // count rose.
     ensures answers { Answered (W.state world.old) (W.state world.new)
@@ -36,18 +31,18 @@ pub fn pdn<W: Outside, D: Deal>(
     // the line of the batch that is then kept.
     ensures counted { let old = W.state world.old in let new = W.state world.new in
         result ≡ Status.Done → Wrote old.written new.written (λ text.
-            IsDone old.told (map string_bytes words.now) text new.told) }
+        IsDone old.told (map string_bytes words.now) text new.told) }
 
     // Each status comes only where its cause stands, and no status without one.
     ensures cause { let old = W.state world.old in
         Cause (RoseIn old.counts (W.state world.new).counts) old.told
-            (map string_bytes words.now) result }
+        (map string_bytes words.now) result }
 
     // Where no count rose and memory didn't run out, status and text are those that are due, and so is what is kept.
     ensures due { let old = W.state world.old in let new = W.state world.new in
         ((who : Who) → RoseIn old.counts new.counts who → ⊥) → (result ≡ Status.Memory)
         ⊎ Wrote old.written new.written (λ text.
-            IsDue old.told (script (map string_bytes words.now)) result text new.told) }
+        IsDue old.told (script (map string_bytes words.now)) result text new.told) }
 
     // Where nothing is to be refused and no count rose, all is answered, unless memory runs out.
     ensures complete { let old = W.state world.old in
@@ -68,12 +63,7 @@ pub fn pdn<W: Outside, D: Deal>(
     perform(alloc, words, world, deal)
 }
 
-fn perform<W: Outside, D: Deal>(
-    alloc: Global,
-    words: &[String],
-    world: &mut W,
-    deal: &D,
-) -> Status
+fn perform<W: Outside, D: Deal>(alloc: Global, words: &[String], world: &mut W, deal: &D) -> Status
     ensures answers { Answered (W.state world.old) (W.state world.new)
         (script (map string_bytes words.now)) result }
     ensures kept_a { loads A (task_of (map string_bytes words.now)) ≡ false

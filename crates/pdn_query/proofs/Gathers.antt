@@ -66,7 +66,7 @@ module _ {old : WorldModel} {site : Site} {root : Node} {ts : List TableModel} w
     pub Gathering-all : (next : List Rows → Script) → length ts ≤ at → Leads old mid (asking site root 0 ts next) (next lists)
     Gathering-all next l =
         let some : Leads old mid (asking site root 0 ts next) (next (g.glue [])) =
-            subst (λ (xs : List TableModel). Leads old mid (asking site root 0 ts next) (asking site root at xs (λ more. next (g.glue more)))) (drop_all at ts l) (g.leads next) in
+        subst (λ (xs : List TableModel). Leads old mid (asking site root 0 ts next) (asking site root at xs (λ more. next (g.glue more)))) (drop_all at ts l) (g.leads next) in
         subst (λ (rows : List Rows). Leads old mid (asking site root 0 ts next) (next rows)) (g.glues [] ∙ append-nil lists) some
 
 -- ---- rows that are judged

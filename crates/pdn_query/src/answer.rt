@@ -50,9 +50,9 @@ pub fn query_answer<W: Outside, D: Deal>(
     requires written { IsWritten asked.query.now }
     ensures came { (next : List ℕ → Script) →
         Came (W.state world.old) (W.state world.new)
-            (query_answer schema.now asked.entry.number asked.entry.ticket
-                asked.entry.query.now next)
-            (λ text. next text.items) result }
+        (query_answer schema.now asked.entry.number asked.entry.ticket
+        asked.entry.query.now next)
+        (λ text. next text.items) result }
     ensures same { (W.state world.new).told ≡ (W.state world.old).told }
 {
     let plan = bound(alloc, schema, asked.query)?;

@@ -28,7 +28,7 @@ pub fn tables_at<W: Outside>(
 ) -> Result<Tables, Stop>
     ensures came { (next : List RowsModel → Script) →
         Came (W.state world.old) (W.state world.new)
-            (asking site plan.now.root 0 schema.now.tables next) (λ tables. next tables) result }
+        (asking site plan.now.root 0 schema.now.tables next) (λ tables. next tables) result }
     ensures count { IfOk result (λ tables. length tables ≡ length schema.now.tables) }
     ensures short { IfOk result
         (λ tables. All (λ (rows : RowsModel). length rows < 2 ^ 32 - 1) tables) }
@@ -47,7 +47,7 @@ fn scanned<W: Outside>(
 ) -> Result<Tables, Stop>
     ensures came { (next : List RowsModel → Script) →
         Came (W.state world.old) (W.state world.new)
-            (asking site root.now 0 schema.now.tables next) (λ tables. next tables) result }
+        (asking site root.now 0 schema.now.tables next) (λ tables. next tables) result }
     ensures count { IfOk result (λ tables. length tables ≡ length schema.now.tables) }
     ensures short { IfOk result
         (λ tables. All (λ (rows : RowsModel). length rows < 2 ^ 32 - 1) tables) }
@@ -73,8 +73,8 @@ fn rows_if<W: Outside>(
     requires { table < length schema.now.tables }
     ensures came { (next : RowsModel → Script) →
         Came (W.state world.old) (W.state world.new)
-            (asking_if (scans table root.now) site (table_of schema.now table) next)
-            (λ rows. next rows) result }
+        (asking_if (scans table root.now) site (table_of schema.now table) next)
+        (λ rows. next rows) result }
     ensures short { IfOk result (λ rows. IsShort rows) }
     ensures same { (W.state world.new).told ≡ (W.state world.old).told }
 {
@@ -97,7 +97,7 @@ fn rows_at<W: Outside>(
     requires { table < length schema.now.tables }
     ensures came { (next : RowsModel → Script) →
         Came (W.state world.old) (W.state world.new)
-            (Ask (Kept site (table_of schema.now table).name) next) (λ rows. next rows) result }
+        (Ask (Kept site (table_of schema.now table).name) next) (λ rows. next rows) result }
     ensures short { IfOk result (λ rows. IsShort rows) }
     ensures same { (W.state world.new).told ≡ (W.state world.old).told }
 {

@@ -60,9 +60,9 @@ pub trait Outside {
         requires in_range { batch.table < length schema.now.tables }
         ensures added { let t = table_of schema.now batch.entry.table in MatchResult result
             (λ how. Replied (state self.old) (state self.new)
-                (BatchAsked site t batch.entry.number batch.entry.rows.now) (answer_of how))
+            (BatchAsked site t batch.entry.number batch.entry.rows.now) (answer_of how))
             (NotAdded (state self.old) (state self.new) site t
-                batch.entry.number batch.entry.rows.now) }
+            batch.entry.number batch.entry.rows.now) }
         ensures only { OnlyAt site (state self.old).told (state self.new).told };
 
     /// Puts these bytes on the sink.
@@ -75,7 +75,7 @@ pub trait Outside {
     fn conclude(&mut self, came: Result<(), Stop>) -> Status
         ensures closes { Wrote (state self.old).written (state self.new).written (λ text.
             Closes (λ _. RoseIn (state self.old).counts (state self.new).counts TheSink)
-                (end_of came) text result) }
+            (end_of came) text result) }
         ensures told { (state self.new).told ≡ (state self.old).told }
         ensures later { NotFallen (state self.old).counts (state self.new).counts };
 }
@@ -91,14 +91,14 @@ pub struct World<F, K, S> {
 
 impl<F: Files, K: SiteKeeper, S: Sink> Outside for World<F, K, S> {
     ghost state = { λ w. record {
-        told = told_by (F.held w.files) (K.batches w.site_a) (K.batches w.site_b);
-        written = S.written w.out;
-        counts = record {
-            files = F.faults w.files;
-            a = K.faults w.site_a;
-            b = K.faults w.site_b;
-            sink = S.faults w.out;
-        };
+      told = told_by (F.held w.files) (K.batches w.site_a) (K.batches w.site_b);
+      written = S.written w.out;
+      counts = record {
+        files = F.faults w.files;
+        a = K.faults w.site_a;
+        b = K.faults w.site_b;
+        sink = S.faults w.out;
+      };
     } };
 
     fn read(&mut self, alloc: Global, name: &str) -> Result<Vec<u8>, FileErr> {
