@@ -2,7 +2,7 @@
 #![tactic(auto)]
 
 use pdn_base::{Files, RealFiles, Sink, Site, Status, StdSink};
-use pdn_commands::pdn;
+use pdn_commands::{World, pdn};
 use pdn_dealer::ChaChaDeal;
 use pdn_keeper::MemSite;
 use pdn_startup::{ImportErr, dealer_of, import_tables, schema_there};
@@ -27,7 +27,12 @@ const VERSION: &str = "pdn 0.1.0\n";
 
 fn main(rt: HostRuntime) -> ExitCode {
     let alloc = rt.alloc();
-    let mut out = StdSink::new(io::writer(&rt));
+    let mut world = World {
+        files: RealFiles::new(&rt),
+        site_a: empty_site(alloc),
+        site_b: empty_site(alloc),
+        out: StdSink::new(io::writer(&rt)),
+    };
     let words = match words(&rt) {
         Ok(words) => words,
         Err(e) if e.kind() == ErrorKind::OutOfMemory => return ExitCode::from(
@@ -37,35 +42,25 @@ fn main(rt: HostRuntime) -> ExitCode {
         Err(_) => Vec::new(alloc),
     };
     if let Some(text) = about(&words) {
-        return match out.put(text.as_bytes()) {
+        return match world.out.put(text.as_bytes()) {
             Ok(()) => ExitCode::SUCCESS,
             Err(_) => ExitCode::FAILURE,
         };
     }
-    let mut files = RealFiles::new(&rt);
-    let Some(deal) = dealer_there(alloc, &mut files) else {
+    let Some(deal) = dealer_there(alloc, &mut world.files) else {
         // Where this put fails, there is nothing left to say.
-        let _put = put_fault(alloc, &mut out, "tape.key");
+        let _put = put_fault(alloc, &mut world.out, "tape.key");
         return ExitCode::FAILURE;
     };
-    let (mut site_a, mut site_b) = (empty_site(alloc), empty_site(alloc));
-    match import_sites(alloc, &mut files, &mut site_a, &mut site_b) {
+    match import_sites(alloc, &mut world) {
         Ok(()) => {}
         Err(ImportErr::Memory) => return ExitCode::from(Status::Memory.code()),
         Err(ImportErr::File(name)) => {
-            let _put = put_fault(alloc, &mut out, name.as_str());
+            let _put = put_fault(alloc, &mut world.out, name.as_str());
             return ExitCode::FAILURE;
         }
     }
-    let status = pdn(
-        alloc,
-        &words,
-        &mut files,
-        &mut site_a,
-        &mut site_b,
-        &mut out,
-        &deal,
-    );
+    let status = pdn(alloc, &words, &mut world, &deal);
     ExitCode::from(status.code())
 }
 
@@ -75,17 +70,15 @@ fn empty_site(alloc: Global) -> MemSite {
 }
 
 // Each site's rows, where the schema can be read; else the sites stay empty.
-fn import_sites(
+fn import_sites<F: Files, S>(
     alloc: Global,
-    files: &mut impl Files,
-    site_a: &mut MemSite,
-    site_b: &mut MemSite,
+    world: &mut World<F, MemSite, S>,
 ) -> Result<(), ImportErr> {
-    let Some(schema) = schema_there(alloc, files) else {
+    let Some(schema) = schema_there(alloc, &mut world.files) else {
         return Ok(());
     };
-    import_tables(alloc, Site::A, &schema, files, site_a)?;
-    import_tables(alloc, Site::B, &schema, files, site_b)
+    import_tables(alloc, Site::A, &schema, &mut world.files, &mut world.site_a)?;
+    import_tables(alloc, Site::B, &schema, &mut world.files, &mut world.site_b)
 }
 
 // The line that names a file that can't serve.

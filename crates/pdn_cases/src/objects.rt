@@ -3,6 +3,7 @@ ghost use Rattle.std.specs.Prelude.{◌≤◌, length, All};
 
 use crate::case::{Case, CaseErr, Fails, NamedFile, Ones, content};
 use pdn_base::{Files, MemFiles, MemSink, Site, Word};
+use pdn_commands::World;
 use pdn_dealer::ListDeal;
 use pdn_keeper::MemSite;
 use pdn_schema::{Schema, read_schema};
@@ -10,40 +11,32 @@ use pdn_startup::{ImportErr, import_tables, schema_there};
 use std::alloc::Global;
 
 /// The files, the sites and the sink of a case.
-#[derive(Drop)]
-pub struct Objects {
-    pub files: MemFiles,
-    pub site_a: MemSite,
-    pub site_b: MemSite,
-    pub out: MemSink,
+pub type Objects = World<MemFiles, MemSite, MemSink>;
+
+/// The objects of a case with these files. No site keeps a row yet.
+pub fn objects_of(alloc: Global, fails: &Fails, files: Vec<NamedFile>) -> Result<Objects, CaseErr>
+    requires { All (λ f. length f.1.items ≤ 536870912) files.items }
+{
+    let later_a = imports(&files, "a_");
+    let later_b = imports(&files, "b_");
+    Ok(World {
+        files: MemFiles::new(files, later(alloc, &fails.files, 0)?),
+        site_a: MemSite::new(Vec::new(alloc), later(alloc, &fails.site_a, later_a)?),
+        site_b: MemSite::new(Vec::new(alloc), later(alloc, &fails.site_b, later_b)?),
+        out: MemSink::new(alloc, fails.room, later(alloc, &fails.sink, 0)?)?,
+    })
 }
 
-impl Objects {
-    /// The objects of a case with these files. No site keeps a row yet.
-    pub fn new(alloc: Global, fails: &Fails, files: Vec<NamedFile>) -> Result<Objects, CaseErr>
-        requires { All (λ f. length f.1.items ≤ 536870912) files.items }
-    {
-        let later_a = imports(&files, "a_");
-        let later_b = imports(&files, "b_");
-        Ok(Objects {
-            files: MemFiles::new(files, later(alloc, &fails.files, 0)?),
-            site_a: MemSite::new(Vec::new(alloc), later(alloc, &fails.site_a, later_a)?),
-            site_b: MemSite::new(Vec::new(alloc), later(alloc, &fails.site_b, later_b)?),
-            out: MemSink::new(alloc, fails.room, later(alloc, &fails.sink, 0)?)?,
-        })
-    }
-
-    /// Has the sites keep the rows of their files, by the schema of `kept.schema` where that is there.
-    pub fn import(&mut self, alloc: Global, files: Vec<NamedFile>) -> Result<(), ImportErr>
-        requires { All (λ f. length f.1.items ≤ 536870912) files.items }
-    {
-        let mut files = MemFiles::new(files, Vec::new(alloc));
-        let Some(schema) = schema_kept(alloc, &mut files) else {
-            return Ok(());
-        };
-        import_tables(alloc, Site::A, &schema, &mut files, &mut self.site_a)?;
-        import_tables(alloc, Site::B, &schema, &mut files, &mut self.site_b)
-    }
+/// Has the sites keep the rows of their files, by the schema of `kept.schema` where that is there.
+pub fn import(alloc: Global, objects: &mut Objects, files: Vec<NamedFile>) -> Result<(), ImportErr>
+    requires { All (λ f. length f.1.items ≤ 536870912) files.items }
+{
+    let mut files = MemFiles::new(files, Vec::new(alloc));
+    let Some(schema) = schema_kept(alloc, &mut files) else {
+        return Ok(());
+    };
+    import_tables(alloc, Site::A, &schema, &mut files, &mut objects.site_a)?;
+    import_tables(alloc, Site::B, &schema, &mut files, &mut objects.site_b)
 }
 
 // The schema by which the sites took their rows.

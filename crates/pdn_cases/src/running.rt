@@ -2,7 +2,7 @@
 ghost use Rattle.std.specs.Prelude.{◌≤◌, length, All};
 
 use crate::case::{Case, CaseErr, NamedFile, content};
-use crate::objects::{Objects, dealer_of_ones};
+use crate::objects::{Objects, dealer_of_ones, import, objects_of};
 use pdn_base::Sink;
 use pdn_commands::pdn;
 use pdn_dealer::Deal;
@@ -41,11 +41,11 @@ pub fn outcome_of(
 {
     let keyed = content(&files, "tape.key").is_some();
     let dealer = dealer_of(content(&files, "tape.key").unwrap_or(b""));
-    let mut objects = Objects::new(alloc, &case.fails, files)?;
+    let mut objects = objects_of(alloc, &case.fails, files)?;
     if keyed && dealer.is_none() {
         return fault(alloc, objects, "tape.key");
     }
-    match objects.import(alloc, kept) {
+    match import(alloc, &mut objects, kept) {
         Ok(()) => {}
         Err(ImportErr::File(name)) => return fault(alloc, objects, name.as_str()),
         Err(ImportErr::Memory) => return Err(CaseErr::Memory),
@@ -74,15 +74,7 @@ fn run_all<D: Deal>(
 ) -> Result<Outcome, CaseErr> {
     let mut statuses = Vec::new(alloc);
     for words in &case.commands {
-        let status = pdn(
-            alloc,
-            words,
-            &mut objects.files,
-            &mut objects.site_a,
-            &mut objects.site_b,
-            &mut objects.out,
-            deal,
-        );
+        let status = pdn(alloc, words, &mut objects, deal);
         statuses.push(u64::from(status.code()))?;
     }
     came_of(alloc, statuses, &objects)

@@ -3,7 +3,7 @@ ghost use Rattle.std.specs.Prelude.{◌≡◌, ◌≤◌, ℕ, length, All, IfOk
 ghost use Rattle.pdn_dealer.specs.Tapes.{first_words, list_tape};
 
 use pdn_base::{MemFiles, MemSink, Memory};
-use pdn_commands::pdn;
+use pdn_commands::{World, pdn};
 use pdn_dealer::{Deal, ListDeal, Section};
 use pdn_keeper::MemSite;
 use std::alloc::{AllocError, Global};
@@ -85,20 +85,14 @@ fn words(alloc: Global) -> Result<Vec<String>, AllocError> {
 #[test]
 fn two_queries_ask_for_the_sections_of_tickets_0_and_1_once(rt: HostRuntime) -> Result<(), Fail> {
     let alloc = rt.alloc();
-    let mut files = MemFiles::new(files(alloc)?, Vec::new(alloc));
-    let mut site_a = MemSite::new(Vec::new(alloc), Vec::new(alloc));
-    let mut site_b = MemSite::new(Vec::new(alloc), Vec::new(alloc));
-    let mut out = MemSink::new(alloc, 1000, Vec::new(alloc))?;
+    let mut world = World {
+        files: MemFiles::new(files(alloc)?, Vec::new(alloc)),
+        site_a: MemSite::new(Vec::new(alloc), Vec::new(alloc)),
+        site_b: MemSite::new(Vec::new(alloc), Vec::new(alloc)),
+        out: MemSink::new(alloc, 1000, Vec::new(alloc))?,
+    };
     let deal = Recording::new(alloc);
-    let status = pdn(
-        alloc,
-        &words(alloc)?,
-        &mut files,
-        &mut site_a,
-        &mut site_b,
-        &mut out,
-        &deal,
-    );
+    let status = pdn(alloc, &words(alloc)?, &mut world, &deal);
     assert_eq!(rt; status.code(), 0);
     assert_eq!(rt; deal.first.load(Ordering::SeqCst), 1);
     assert_eq!(rt; deal.second.load(Ordering::SeqCst), 1);

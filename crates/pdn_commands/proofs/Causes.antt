@@ -1,5 +1,5 @@
 -- The causes of a command's statuses, and what Done comes with.
-use Rattle.std.proofs.Common.{◌≡◌, ℕ, zero, suc, ◌+◌, ◌<◌, ◌++◌, List, [], ◌∷◌, length, take, get_or, arith, None, Some, Option, Result, Ok, Err, inl, inr, ◌⊎◌, refl, sym, subst, ap, ◌∙◌, append-nil, append_assoc}
+use Rattle.std.proofs.Common.{◌≡◌, ℕ, suc, ◌+◌, ◌<◌, ◌++◌, List, [], ◌∷◌, length, take, get_or, arith, None, Some, Option, Result, Ok, Err, inl, inr, ◌⊎◌, refl, sym, subst, ◌∙◌, append-nil, append_assoc}
 use Rattle.std.specs.Prelude.{Bool, true, false, codes}
 use Rattle.std.specs.List.{AllByRecursion}
 use Rattle.pdn_base.specs.declared.rows_err.RowsErr.{RowsErr}
@@ -8,6 +8,7 @@ use Rattle.pdn_base.specs.declared.site.Site.TheVariants.{A, B}
 use Rattle.pdn_base.specs.declared.status.Status.{Status}
 use Rattle.pdn_base.specs.declared.status.Status.TheVariants as status
 use Rattle.pdn_base.specs.declared.status.Who.{Who}
+use Rattle.pdn_base.specs.declared.status.Who.TheVariants.{Sink}
 use Rattle.pdn_base.specs.declared.value.Value.{Value}
 use Rattle.pdn_schema.specs.Models.{SchemaModel, TableModel, table_of, no_table}
 use Rattle.pdn_schema.specs.Rows.{IsValid, IsRefused, union}
@@ -20,15 +21,17 @@ use Rattle.pdn_site.specs.Models.{UnitModel}
 use Rattle.pdn_site.specs.Compiling.{Compiled}
 use Rattle.pdn_schema.specs.Printing.{text_of}
 use Rattle.pdn_commands.specs.Checking.{reporting, query_report, AreReported}
-use Rattle.pdn_commands.specs.Causes.{AskedRun, AskedQueries, AskedCheck, AskedReports, AskedLoad, AskedTable, IsReached, IsAsked, IsFirstWrong, AreWrong, Cause, IsLoaded, IsDone, file_of}
+use Rattle.pdn_commands.specs.Causes.{AskedRun, AskedQueries, AskedCheck, AskedReports, AskedLoad, AskedTable, Inputs, IsReached, IsAsked, AreWrong, Cause, IsDone, file_of}
 use Rattle.pdn_commands.specs.Commands.{Task, Run, Check, Load, task_of, task_script, script}
-use Rattle.pdn_commands.specs.Answering.{scans, asking_if, asking, or_wrong, judging, units_over, or_large, answer_text, said, planned_script, queries_script, KeepsIf, KeepsAll, AllValid, IsTaken, IsAnswer, AreAnswers}
-use Rattle.pdn_commands.specs.Questions.{Told, Unbound, Broken, Hidden, IsBound, Holds, Valid, IsWrong, kept_at, IsSchemaIn, AreQueriesIn, AreRowsIn, Answer, New, Again, Differs, OverRows, OverPer, Batch, Gives, after, questions}
-use Rattle.pdn_commands.specs.Script.{Script, Finish, Refuse, Say, Ask, found, with_inputs, or_fault, or_unbound, answered, load_table, table_number}
-use Rattle.pdn_commands.specs.Stops.{Inputs}
-use Rattle.pdn_commands.specs.Walk.{Refusals, Texts, Follows}
+use Rattle.pdn_query.specs.Answering.{scans, asking_if, asking, or_wrong, judging, units_over, or_large, answer_text, answering, KeepsIf, KeepsAll, AllValid, IsTaken, IsAnswer}
+use Rattle.pdn_commands.specs.Running.{queries_script, AreAnswers}
+use Rattle.pdn_query.specs.Questions.{Told, Unbound, Broken, Hidden, IsBound, Holds, IsWrong, kept_at, IsSchemaIn, AreQueriesIn, AreRowsIn, Answer, New, Again, Differs, OverRows, OverPer, Batch, Gives, after, questions}
+use Rattle.pdn_query.specs.Script.{Script, Finish, Refuse, Say, Ask, or_fault, or_unbound}
+use Rattle.pdn_commands.specs.Script.{found, with_inputs, answered, load_table, table_number}
+use Rattle.pdn_query.specs.Walk.{Refusals, Texts, Follows, End, NoMemory, Closes, Wrote, Along}
+use Rattle.pdn_query.specs.World.{WorldModel, RoseIn}
 use Rattle.pdn_script.specs.Ways.{IsPlain}
-use Rattle.pdn_script.proofs.Ends.{status_has, done_text}
+use Rattle.pdn_script.proofs.Ends.{status_has, done_text, memory_end}
 
 -- ---- what holds of each refusal of a command's inputs
 module _ (told : Told) (P : Status → Type 0) where
@@ -108,15 +111,15 @@ module _ (rose : Who → Type 0) (told : Told) (words : List (List ℕ)) where
   wrong_caused : (asked : IsAsked told words) (site : Site) (at : ℕ) (e : RowsErr) → AreWrong asked.all.run.s asked.a asked.b site at e → Refused rose told words (status.BadRows site at e)
   wrong_caused asked site at e are = record { asked = asked; are = are }
 
-  planned_caused : (all : AskedQueries told words) (ticket : ℕ) (query : Query) (next : Script) → IsReached told all.run.s all.queries query → (plan : PlanModel) → IsBound all.run.s query (Ok plan) →
-      (IsTaken told.a told.b all.run.s query → Caused next) → Caused (planned_script all.run.s ticket query next plan)
-  planned_caused all ticket query next reached plan binds more =
+  planned_caused : (all : AskedQueries told words) (query : Query) (next : Rows → Script) → IsReached told all.run.s all.queries query → (plan : PlanModel) → IsBound all.run.s query (Ok plan) →
+      (IsTaken told.a told.b all.run.s query → (rows : Rows) → Caused (next rows)) → Caused (answering all.run.s query plan next)
+  planned_caused all query next reached plan binds more =
       in_asked told (Refused rose told words) A plan.root 0 all.run.s.tables _ (λ a ha. in_asked told (Refused rose told words) B plan.root 0 all.run.s.tables _ (λ b hb.
       let asked : IsAsked told words = record { all = all; query = query; reached = reached; plan = plan; binds = binds; a = a; b = b; held_a = ha; held_b = hb } in
       in_judged told (Refused rose told words) A 0 all.run.s.tables a _ (λ k place e same before l refused. wrong_caused asked A place e (subst (λ (n : ℕ). AreWrong all.run.s a b A n e) (from_first k place same) (record { before = before; within = l; here = refused }))) (λ va.
       in_judged told (Refused rose told words) B 0 all.run.s.tables b _ (λ k place e same before l refused. wrong_caused asked B place e (subst (λ (n : ℕ). AreWrong all.run.s a b B n e) (from_first k place same) (va, record { before = before; within = l; here = refused }))) (λ vb.
-      in_large told (Refused rose told words) _ (units_over all.run.s plan.root a b) (λ limit unit passes. record { asked = asked; valid_a = va; valid_b = vb; passes = passes })
-      (λ units fits. more (record { plan = plan; binds = binds; a = a; b = b; held_a = ha; held_b = hb; valid_a = va; valid_b = vb; units = units; fits = fits }))))))
+      in_large told (Refused rose told words) (next (answer all.run.s (union a b) query)) (units_over all.run.s plan.root a b) (λ limit unit passes. record { asked = asked; valid_a = va; valid_b = vb; passes = passes })
+      (λ units fits. more (record { plan = plan; binds = binds; a = a; b = b; held_a = ha; held_b = hb; valid_a = va; valid_b = vb; units = units; fits = fits }) (answer all.run.s (union a b) query))))))
 
   -- a query's plan is asked for first
   bound_caused : (all : AskedQueries told words) (query : Query) → IsReached told all.run.s all.queries query → (next : PlanModel → Script) → ((bound : PlanModel) → IsBound all.run.s query (Ok bound) → Caused (next bound)) →
@@ -125,16 +128,16 @@ module _ (rose : Who → Type 0) (told : Told) (words : List (List ℕ)) where
   bound_caused all query reached next more (Err (Broken kind name)) is = inl (inl (record { all = all; query = query; reached = reached; is = is }))
   bound_caused all query reached next more (Err (Hidden column label)) is = inl (record { all = all; query = query; reached = reached; is = is })
 
-  queries_caused : (all : AskedQueries told words) (ticket : ℕ) (before queries : List Query) → all.queries ≡ before ++ queries →
-      AllByRecursion (IsTaken told.a told.b all.run.s) before → Caused (queries_script all.run.s ticket queries)
-  queries_caused all ticket before [] e taken = tt
-  queries_caused all ticket before (query ∷ queries) e taken = let reached : IsReached told all.run.s all.queries query = record { before = before; later = queries; stands = e; taken = taken } in
-      bound_caused all query reached _ (λ plan binds. planned_caused all ticket query _ reached plan binds
-      (λ is. queries_caused all (ticket + 1) (before ++ query ∷ []) queries (e ∙ sym (append_assoc before (query ∷ []) queries)) (all_more (IsTaken told.a told.b all.run.s) before query taken is)))
+  queries_caused : (all : AskedQueries told words) (number ticket : ℕ) (before queries : List Query) → all.queries ≡ before ++ queries →
+      AllByRecursion (IsTaken told.a told.b all.run.s) before → Caused (queries_script all.run.s number ticket queries)
+  queries_caused all number ticket before [] e taken = tt
+  queries_caused all number ticket before (query ∷ queries) e taken = let reached : IsReached told all.run.s all.queries query = record { before = before; later = queries; stands = e; taken = taken } in
+      bound_caused all query reached _ (λ plan binds. planned_caused all query (λ rows. Say (answer_text number ticket plan.columns rows) (queries_script all.run.s (number + 1) (ticket + 1) queries)) reached plan binds
+      (λ is rows. queries_caused all (number + 1) (ticket + 1) (before ++ query ∷ []) queries (e ∙ sym (append_assoc before (query ∷ []) queries)) (all_more (IsTaken told.a told.b all.run.s) before query taken is)))
 
   answered_caused : (table : AskedTable told words) (rows : List (List Value)) → AreRowsIn (table_of table.load.s table.at) table.load.csv (Ok rows) → (answer : Answer) →
       Gives told (Batch table.load.site (table_of table.load.s table.at) table.load.number rows) answer →
-      Refusals (after told (Batch table.load.site (table_of table.load.s table.at) table.load.number rows) answer) (Refused rose told words) (answered (table_of table.load.s table.at) table.load.number (length rows) answer)
+      Refusals (after told (Batch table.load.site (table_of table.load.s table.at) table.load.number rows) answer) (Refused rose told words) (answered (table_of table.load.s table.at) table.load.number (length rows) (λ text. Say text Finish) answer)
   answered_caused table rows are New says = tt
   answered_caused table rows are Again says = tt
   answered_caused table rows are (Differs at) says = record { table = table; rows = rows; are = are; says = says }
@@ -178,7 +181,7 @@ module _ (rose : Who → Type 0) (told : Told) (words : List (List ℕ)) where
   task_caused (Some (Run file workers)) e = task_inputs (Run file workers) _ e (λ s sql inputs read is.
       let run : AskedRun told words = record { file = file; workers = workers; s = s; sql = sql; asked = e; inputs = inputs } in
       in_read told (Refused rose told words) status.Sql _ (AreQueriesIn sql) read is (λ place kind are. inl (run, are))
-      (λ queries are. queries_caused (record { run = run; queries = queries; are = are }) 0 [] queries refl tt))
+      (λ queries are. queries_caused (record { run = run; queries = queries; are = are }) 1 0 [] queries refl tt))
   task_caused (Some (Check file)) e = task_inputs (Check file) _ e (λ s sql inputs read is.
       let check : AskedCheck told words = record { file = file; s = s; sql = sql; asked = e; inputs = inputs } in
       in_read told (Refused rose told words) status.Sql _ (AreQueriesIn sql) read is (λ place kind are. inr (check, are))
@@ -255,11 +258,12 @@ module _ (told : Told) where
   text_large Q next (Ok units) more = more units refl
   text_large Q next (Err passed) more = tt
 
-  planned_text : (Q : List ℕ → Told → Type 0) (s : SchemaModel) (ticket : ℕ) (query : Query) (next : Script) (plan : PlanModel) → IsBound s query (Ok plan) →
-      ((text : List ℕ) → IsAnswer told.a told.b s ticket query text → Texts told (λ more now. Q (text ++ more) now) next) → Texts told Q (planned_script s ticket query next plan)
-  planned_text Q s ticket query next plan binds more = text_asked Q A plan.root 0 s.tables _ (λ a ha. text_asked Q B plan.root 0 s.tables _ (λ b hb.
-      text_judged Q A 0 s.tables a _ (λ va. text_judged Q B 0 s.tables b _ (λ vb. text_large Q _ (units_over s plan.root a b) (λ units fits.
-      more (answer_text (ticket + 1) ticket plan.columns (answer s (union a b) query)) (record {
+  planned_text : (Q : List ℕ → Told → Type 0) (s : SchemaModel) (number ticket : ℕ) (query : Query) (next : Script) (plan : PlanModel) → IsBound s query (Ok plan) →
+      ((text : List ℕ) → IsAnswer told.a told.b s number ticket query text → Texts told (λ more now. Q (text ++ more) now) next) →
+      Texts told Q (answering s query plan (λ rows. Say (answer_text number ticket plan.columns rows) next))
+  planned_text Q s number ticket query next plan binds more = text_asked Q A plan.root 0 s.tables _ (λ a ha. text_asked Q B plan.root 0 s.tables _ (λ b hb.
+      text_judged Q A 0 s.tables a _ (λ va. text_judged Q B 0 s.tables b _ (λ vb. text_large Q (Say (answer_text number ticket plan.columns (answer s (union a b) query)) next) (units_over s plan.root a b) (λ units fits.
+      more (answer_text number ticket plan.columns (answer s (union a b) query)) (record {
         taken = record { plan = plan; binds = binds; a = a; b = b; held_a = ha; held_b = hb; valid_a = va; valid_b = vb; units = units; fits = fits };
         printed = refl;
       }))))))
@@ -270,11 +274,11 @@ module _ (told : Told) where
   bound_text Q s query next more (Err (Broken kind name)) is = tt
   bound_text Q s query next more (Err (Hidden column label)) is = tt
 
-  queries_text : (Q : List ℕ → Told → Type 0) (s : SchemaModel) (ticket : ℕ) (queries : List Query) → ((text : List ℕ) → AreAnswers told.a told.b s ticket queries text → Q text told) →
-      Texts told Q (queries_script s ticket queries)
-  queries_text Q s ticket [] done = done [] refl
-  queries_text Q s ticket (query ∷ queries) done = bound_text Q s query _ (λ plan binds. planned_text Q s ticket query _ plan binds (λ text is.
-      queries_text (λ more now. Q (text ++ more) now) s (ticket + 1) queries (λ more are. done (text ++ more) (text, more, refl, is, are))))
+  queries_text : (Q : List ℕ → Told → Type 0) (s : SchemaModel) (number ticket : ℕ) (queries : List Query) → ((text : List ℕ) → AreAnswers told.a told.b s number ticket queries text → Q text told) →
+      Texts told Q (queries_script s number ticket queries)
+  queries_text Q s number ticket [] done = done [] refl
+  queries_text Q s number ticket (query ∷ queries) done = bound_text Q s query _ (λ plan binds. planned_text Q s number ticket query _ plan binds (λ text is.
+      queries_text (λ more now. Q (text ++ more) now) s (number + 1) (ticket + 1) queries (λ more are. done (text ++ more) (text, more, refl, is, are))))
 
   reports_text : (Q : List ℕ → Told → Type 0) (s : SchemaModel) (number : ℕ) (queries : List Query) (next : List ℕ → Script) → ((text : List ℕ) → AreReported s number queries text → Texts told Q (next text)) →
       Texts told Q (reporting s number queries next)
@@ -285,7 +289,7 @@ module _ (told : Told) where
 module _ (told : Told) (words : List (List ℕ)) where
   answered_text : (table : AskedTable told words) (rows : List (List Value)) → AreRowsIn (table_of table.load.s table.at) table.load.csv (Ok rows) → (answer : Answer) →
       Gives told (Batch table.load.site (table_of table.load.s table.at) table.load.number rows) answer →
-      Texts (after told (Batch table.load.site (table_of table.load.s table.at) table.load.number rows) answer) (IsDone told words) (answered (table_of table.load.s table.at) table.load.number (length rows) answer)
+      Texts (after told (Batch table.load.site (table_of table.load.s table.at) table.load.number rows) answer) (IsDone told words) (answered (table_of table.load.s table.at) table.load.number (length rows) (λ text. Say text Finish) answer)
   answered_text table rows are New says = inr (inr (record { table = table; rows = rows; are = are; loaded = inl (says, append-nil _, refl) }))
   answered_text table rows are Again says = inr (inr (record { table = table; rows = rows; are = are; loaded = inr (says, append-nil _, refl) }))
   answered_text table rows are (Differs at) says = tt
@@ -300,7 +304,7 @@ module _ (told : Told) (words : List (List ℕ)) where
   task_text : (task : Option Task) → task_of words ≡ task → Texts told (IsDone told words) (task_script task)
   task_text None e = tt
   task_text (Some (Run file workers)) e = text_inputs told (IsDone told words) file _ (λ s sql inputs read is.
-      text_read told (IsDone told words) status.Sql _ (AreQueriesIn sql) read is (λ queries are. queries_text told (IsDone told words) s 0 queries
+      text_read told (IsDone told words) status.Sql _ (AreQueriesIn sql) read is (λ queries are. queries_text told (IsDone told words) s 1 0 queries
       (λ text answers. inl (record {
         all = record { run = record { file = file; workers = workers; s = s; sql = sql; asked = e; inputs = inputs }; queries = queries; are = are };
         answers = answers;
@@ -320,3 +324,9 @@ module _ (told : Told) (words : List (List ℕ)) where
 
   pub does : (rose : Who → Type 0) (out : List ℕ) (result : Status) (now : Told) → Follows rose told (script words) out result now → result ≡ status.Done → IsDone told words out now
   does rose out result now a done = done_text questions rose told (IsDone told words) (script words) out result now (all_plain rose told words) (task_text (task_of words) refl) a done
+
+-- where the status is Memory, memory ran out on the way
+pub spent_end : (a b c : WorldModel) (words : List (List ℕ)) (end : End) (result : Status) → Along a b (script words) end →
+    Wrote b.written c.written (λ text. Closes (λ _. RoseIn b.counts c.counts Sink) end text result) → result ≡ status.Memory → end ≡ NoMemory
+spent_end a b c words end result w closes e = memory_end questions (RoseIn a.counts b.counts) (λ _. RoseIn b.counts c.counts Sink) a.told (script words) w.out closes.0 end result b.told
+    (all_plain (RoseIn a.counts b.counts) a.told words) w.goes closes.2 e

@@ -1,6 +1,3 @@
-pub mod Walks
-pub mod Answers
-pub mod Loads
-pub mod Checks
+pub mod Tasks
+pub mod Runs
 pub mod Causes
-pub mod Ready

@@ -1,5 +1,5 @@
 -- When each status may be answered.
-use Rattle.std.specs.Prelude.{◌≡◌, ◌⊎◌, ◌<◌, ℕ, List, [], ◌∷◌, ◌++◌, length, take, get_or, None, Some, Option, Result, Ok, Err, codes}
+use Rattle.std.specs.Prelude.{◌≡◌, ◌⊎◌, ◌<◌, ℕ, List, [], ◌∷◌, ◌++◌, length, take, get_or, None, Some, Option, Ok, Err, codes}
 use Rattle.std.specs.List.{AllByRecursion}
 use Rattle.pdn_base.specs.declared.rows_err.RowsErr.{RowsErr}
 use Rattle.pdn_base.specs.declared.site.Site.{Site}
@@ -10,16 +10,17 @@ use Rattle.pdn_base.specs.declared.status.Who.{Who}
 use Rattle.pdn_base.specs.declared.value.Value.{Value}
 use Rattle.pdn_base.specs.Operators.{Rows}
 use Rattle.pdn_schema.specs.Models.{SchemaModel, table_of}
+use Rattle.pdn_schema.specs.Reading.{Says}
 use Rattle.pdn_schema.specs.Rows.{IsRefused}
 use Rattle.pdn_sql.specs.declared.query.Query.{Query}
 use Rattle.pdn_commands.specs.Commands.{Task, Run, Check, Load, task_of}
-use Rattle.pdn_commands.specs.Answering.{IsTaken, AreAnswers, KeepsAll, AllValid, units_over}
+use Rattle.pdn_query.specs.Answering.{IsTaken, KeepsAll, AllValid, units_over}
+use Rattle.pdn_commands.specs.Running.{AreAnswers}
 use Rattle.pdn_commands.specs.Checking.{AreReported}
 use Rattle.pdn_schema.specs.Printing.{text_of}
 use Rattle.pdn_tree.specs.Plans.{PlanModel}
-use Rattle.pdn_commands.specs.Questions.{Told, Unbound, Broken, Hidden, IsBound, Holds, Answer, New, Again, Differs, OverRows, OverPer, Batch, Gives, kept_at, with_new, IsSchemaIn, AreQueriesIn, AreRowsIn}
+use Rattle.pdn_query.specs.Questions.{Told, Unbound, Broken, Hidden, IsBound, Holds, Answer, New, Again, Differs, OverRows, OverPer, Batch, Gives, with_new, IsSchemaIn, AreQueriesIn, AreRowsIn}
 use Rattle.pdn_commands.specs.Script.{table_number, loaded_text}
-use Rattle.pdn_commands.specs.Stops.{Inputs}
 use Rattle.pdn_keeper.specs.Batches.{batch_held}
 
 -- the file that a task reads besides the schema
@@ -41,6 +42,13 @@ pub record IsSchemaFault (told : Told) (words : List (List ℕ)) (line cause : �
   pub net_held : Holds told.files (codes "net.schema") (Some net)
   pub text_held : Holds told.files (file_of task) (Some text)
   pub is : IsSchemaIn net (Err (line, cause))
+
+-- the schema file says this schema, and the file of this name holds these bytes
+pub record Inputs (told : Option (List ℕ → Option (List ℕ))) (name : List ℕ) (s : SchemaModel) (text : List ℕ) : Type 0 where
+  pub net : List ℕ
+  pub net_held : Holds told (codes "net.schema") (Some net)
+  pub text_held : Holds told name (Some text)
+  pub says : Says net s
 
 -- A run is asked for, its files are there, and the schema file says this schema.
 pub record AskedRun (told : Told) (words : List (List ℕ)) : Type 0 where
@@ -194,7 +202,7 @@ Cause rose told words other = ⊥
 -- the queries' answers, and the keepers as they were
 pub record IsRun (told : Told) (words : List (List ℕ)) (text : List ℕ) (now : Told) : Type 0 where
   pub all : AskedQueries told words
-  pub answers : AreAnswers told.a told.b all.run.s 0 all.queries text
+  pub answers : AreAnswers told.a told.b all.run.s 1 0 all.queries text
   pub kept : now ≡ told
 
 -- the schema and the queries' reports, and the keepers as they were

@@ -11,9 +11,9 @@ use Rattle.pdn_tree.specs.declared.plan.OutColumn.{OutColumn}
 use Rattle.pdn_level.specs.Levels.{segments_of}
 use Rattle.pdn_level.specs.Models.{SegmentModel}
 use Rattle.pdn_level.specs.declared.staged.Leaf.{Leaf}
-use Rattle.pdn_commands.specs.Answering.{query_name}
-use Rattle.pdn_commands.specs.Questions.{IsBound}
-use Rattle.pdn_commands.specs.Script.{Script, Finish, Say, binding, column_name}
+use Rattle.pdn_query.specs.Answering.{query_name}
+use Rattle.pdn_query.specs.Questions.{IsBound}
+use Rattle.pdn_query.specs.Script.{Script, Finish, Say, binding, column_name}
 
 -- a query as it is printed, behind its number
 abbrev pub query_line : ℕ → Query → List ℕ
@@ -55,18 +55,18 @@ segment_lines s number (segment ∷ segments) = segment_line s number segment ++
 abbrev pub query_report : SchemaModel → ℕ → Query → PlanModel → List ℕ
 query_report s number query plan = query_line number query ++ column_lines plan.columns ++ segment_lines s 0 (segments_of s plan.root [])
 
+-- a query is bound; what follows is its report
+abbrev pub query_reporting : SchemaModel → ℕ → Query → (List ℕ → Script) → Script
+query_reporting s number query next = binding s query (λ plan. next (query_report s number query plan))
+
 -- the plan of each query is asked for, in order; what follows their reports
 abbrev pub reporting : SchemaModel → ℕ → List Query → (List ℕ → Script) → Script
 reporting s number [] next = next []
-reporting s number (query ∷ queries) next = binding s query (λ plan. reporting s (number + 1) queries (λ more. next (query_report s number query plan ++ more)))
+reporting s number (query ∷ queries) next = query_reporting s number query (λ first. reporting s (number + 1) queries (λ more. next (first ++ more)))
 
 -- the schema and the reports, in one put
 abbrev pub report_script : SchemaModel → List Query → Script
 report_script s queries = reporting s 1 queries (λ text. Say (text_of s ++ text) Finish)
-
--- This query has a plan, and the text is its report.
-abbrev pub IsReported : SchemaModel → ℕ → Query → List ℕ → Type 0
-IsReported s number query text = (plan : PlanModel) × IsBound s query (Ok plan) × (text ≡ query_report s number query plan)
 
 -- These queries have plans, and the text is their reports, one after the other.
 abbrev pub AreReported : SchemaModel → ℕ → List Query → List ℕ → Type 0

@@ -1,5 +1,5 @@
 -- What the words of a command line ask for, and what is then to be done.
-use Rattle.std.specs.Prelude.{ℕ, ◌-◌, ◌^◌, List, [], ◌∷◌, Bool, true, false, ◌&&◌, ◌||◌, not, nat_le, nat_lt, ◌==◌, length, slice_index, Option, Some, None, codes, if◌then◌else◌}
+use Rattle.std.specs.Prelude.{ℕ, List, [], ◌∷◌, Bool, true, false, ◌&&◌, ◌||◌, not, nat_le, nat_lt, ◌==◌, length, slice_index, Option, Some, None, codes, if◌then◌else◌}
 use Rattle.std.specs.Char.{is_ascii_digit}
 use Rattle.std.specs.List.{list_all}
 use Rattle.std.specs.Str.{bytes_eq}
@@ -8,9 +8,9 @@ use Rattle.pdn_base.specs.Numbers.{number_of, value_of}
 use Rattle.pdn_base.specs.declared.site.Site.{Site}
 use Rattle.pdn_base.specs.declared.site.Site.TheVariants.{A, B}
 use Rattle.pdn_base.specs.declared.status.Status.TheVariants as status
-use Rattle.pdn_commands.specs.Questions.{QueriesIn}
-use Rattle.pdn_commands.specs.Script.{Script, Ask, refuse, or_fault, with_inputs, load_script}
-use Rattle.pdn_commands.specs.Answering.{queries_script}
+use Rattle.pdn_query.specs.Script.{Script, refuse}
+use Rattle.pdn_commands.specs.Script.{with_inputs, with_queries, load_script}
+use Rattle.pdn_commands.specs.Running.{queries_script}
 use Rattle.pdn_commands.specs.Checking.{report_script}
 use Rattle.pdn_commands.specs.declared.command.Command.{Command}
 use Rattle.pdn_commands.specs.declared.command.Command.TheVariants as command
@@ -80,10 +80,10 @@ loads site (Some (Check file)) = false
 loads site (Some (Load at table number file)) = same_site site at
 
 abbrev pub run_script : List ℕ → Script
-run_script file = with_inputs file (λ s sql. Ask (QueriesIn sql) (or_fault status.Sql (queries_script s 0)))
+run_script file = with_inputs file (λ s sql. with_queries sql (queries_script s 1 0))
 
 abbrev pub check_script : List ℕ → Script
-check_script file = with_inputs file (λ s sql. Ask (QueriesIn sql) (or_fault status.Sql (report_script s)))
+check_script file = with_inputs file (λ s sql. with_queries sql (report_script s))
 
 abbrev pub task_script : Option Task → Script
 task_script None = refuse status.Words

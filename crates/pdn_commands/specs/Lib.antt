@@ -1,9 +1,5 @@
-pub mod Questions
 pub mod Script
-pub mod Answering
+pub mod Running
 pub mod Checking
 pub mod Commands
-pub mod Walk
-pub mod Stops
-pub mod Gathering
 pub mod Causes

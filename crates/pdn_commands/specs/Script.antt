@@ -1,23 +1,14 @@
--- What a command should do, from its words alone: what it asks, what it makes of each reply, what it says.
-use Rattle.std.specs.Prelude.{ℕ, ◌+◌, List, [], ◌∷◌, ◌++◌, length, position, Option, Some, None, Result, Ok, Err, codes, decimal}
-use Rattle.std.specs.List.{slice_get}
+-- What a command reads first, and what a load should do.
+use Rattle.std.specs.Prelude.{ℕ, List, ◌++◌, length, position, Option, Some, None, codes, decimal}
 use Rattle.std.specs.Str.{bytes_eq}
-pub use Rattle.pdn_script.specs.Scripts.{Finish, Refuse, Say, Ask, refuse}
-use Rattle.pdn_script.specs.Scripts.{Script as Tree}
 use Rattle.pdn_base.specs.Texts.{line, refusal}
-use Rattle.pdn_base.specs.declared.status.Status.{Status}
 use Rattle.pdn_base.specs.declared.status.Status.TheVariants as status
 use Rattle.pdn_base.specs.declared.site.Site.{Site}
 use Rattle.pdn_base.specs.declared.value.Value.{Value}
 use Rattle.pdn_schema.specs.Models.{SchemaModel, TableModel, table_of}
-use Rattle.pdn_schema.specs.declared.schema.Column.{Column}
 use Rattle.pdn_sql.specs.declared.query.Query.{Query}
-use Rattle.pdn_tree.specs.Plans.{PlanModel}
-use Rattle.pdn_commands.specs.Questions.{Question, File, Batch, SchemaIn, Bound, RowsIn, Reply, Unbound, Broken, Hidden, Answer, New, Again, Differs, OverRows, OverPer}
-
--- a script of these questions
-abbrev pub Script : Type 0
-Script = Tree Question Reply
+use Rattle.pdn_query.specs.Questions.{File, Batch, SchemaIn, QueriesIn, RowsIn, Answer, New, Again, Differs, OverRows, OverPer}
+use Rattle.pdn_query.specs.Script.{Script, Finish, Refuse, Say, Ask, refuse, or_fault, column_name}
 
 -- what follows a read, or the refusal where there is no such file
 abbrev pub found : List ℕ → (List ℕ → Script) → Option (List ℕ) → Script
@@ -27,55 +18,44 @@ found name next (Some bytes) = next bytes
 abbrev pub reading : List ℕ → (List ℕ → Script) → Script
 reading name next = Ask (File name) (found name next)
 
--- what follows what was read, or the refusal that names the place and the cause of its first fault
-abbrev pub or_fault : {X : Type 0} → (ℕ → ℕ → Status) → (X → Script) → Result X (ℕ × ℕ) → Script
-or_fault fault next (Ok x) = next x
-or_fault fault next (Err at) = refuse (fault at.0 at.1)
+-- the schema that bytes say
+abbrev pub with_schema : List ℕ → (SchemaModel → Script) → Script
+with_schema bytes next = Ask (SchemaIn bytes) (or_fault status.Schema next)
 
 -- The schema file and then the file of this name are read; then the schema is what the first says.
 abbrev pub with_inputs : List ℕ → (SchemaModel → List ℕ → Script) → Script
-with_inputs name next = reading (codes "net.schema") (λ net. reading name (λ text. Ask (SchemaIn net) (or_fault status.Schema (λ s. next s text))))
+with_inputs name next = reading (codes "net.schema") (λ net. reading name (λ text. with_schema net (λ s. next s text)))
 
--- the refusal of a query that has no plan
-abbrev pub refuse_unbound : Unbound → Script
-refuse_unbound (Broken kind name) = refuse (status.Plan kind name)
-refuse_unbound (Hidden column label) = refuse (status.Forbidden column label)
-
--- what follows a query's plan, or that refusal
-abbrev pub or_unbound : (PlanModel → Script) → Result PlanModel Unbound → Script
-or_unbound next (Ok plan) = next plan
-or_unbound next (Err why) = refuse_unbound why
-
-abbrev pub binding : SchemaModel → Query → (PlanModel → Script) → Script
-binding s query next = Ask (Bound s query) (or_unbound next)
+-- the queries that bytes say
+abbrev pub with_queries : List ℕ → (List Query → Script) → Script
+with_queries bytes next = Ask (QueriesIn bytes) (or_fault status.Sql next)
 
 -- the number of the table of this name
 abbrev pub table_number : List ℕ → SchemaModel → Option ℕ
 table_number name s = position (λ (t : TableModel). bytes_eq t.name name) s.tables
-
--- the name of a column, or its number where there is none
-abbrev pub name_or : ℕ → Option Column → List ℕ
-name_or at None = decimal at
-name_or at (Some column) = column.name
-
-abbrev pub column_name : TableModel → ℕ → List ℕ
-column_name t at = name_or at (slice_get t.columns at)
 
 -- ---- load
 
 abbrev pub loaded_text : List ℕ → List ℕ → ℕ → ℕ → List ℕ
 loaded_text how table number rows = line (codes "loaded " ++ how ++ codes " " ++ table ++ codes " batch " ++ decimal number ++ codes " rows " ++ decimal rows)
 
--- what follows a site's answer to a batch of so many rows
-abbrev pub answered : TableModel → ℕ → ℕ → Answer → Script
-answered t number rows New = Say (loaded_text (codes "new") t.name number rows) Finish
-answered t number rows Again = Say (loaded_text (codes "again") t.name number rows) Finish
-answered t number rows (Differs at) = refuse (status.BatchDiffers at)
-answered t number rows OverRows = refuse (status.OverBound None)
-answered t number rows (OverPer column) = Refuse (status.OverBound (Some column)) (refusal t.name (column_name t column) (status.OverBound (Some column)))
+-- what follows the line of a batch of so many rows that a site took, or the refusal
+abbrev pub answered : TableModel → ℕ → ℕ → (List ℕ → Script) → Answer → Script
+answered t number rows next New = next (loaded_text (codes "new") t.name number rows)
+answered t number rows next Again = next (loaded_text (codes "again") t.name number rows)
+answered t number rows next (Differs at) = refuse (status.BatchDiffers at)
+answered t number rows next OverRows = refuse (status.OverBound None)
+answered t number rows next (OverPer column) = Refuse (status.OverBound (Some column)) (refusal t.name (column_name t column) (status.OverBound (Some column)))
+
+abbrev pub handing : Site → TableModel → ℕ → List (List Value) → (List ℕ → Script) → Script
+handing site t number rows next = Ask (Batch site t number rows) (answered t number (length rows) next)
+
+-- the rows that a CSV text gives
+abbrev pub importing : TableModel → List ℕ → (List (List Value) → Script) → Script
+importing t csv next = Ask (RowsIn t csv) (or_fault status.Csv next)
 
 abbrev pub load_rows : Site → TableModel → ℕ → List ℕ → Script
-load_rows site t number csv = Ask (RowsIn t csv) (or_fault status.Csv (λ rows. Ask (Batch site t number rows) (answered t number (length rows))))
+load_rows site t number csv = importing t csv (λ rows. handing site t number rows (λ text. Say text Finish))
 
 abbrev pub load_table : Site → List ℕ → ℕ → SchemaModel → List ℕ → Option ℕ → Script
 load_table site table number s csv None = refuse (status.Plan 1 table)

@@ -1,52 +1,38 @@
 //! `check`: prints the schema, and of each query of a file itself, its output columns and its segments.
-ghost use Rattle.std.specs.Prelude.{◌≡◌, ◌≤◌, ◌<◌, ◌+◌, ◌-◌, ◌++◌, ◌^◌, decimal, ℕ, List, Option, Ok, length, IfOk, OnOk, MatchResult};
+ghost use Rattle.std.specs.Prelude.{◌≡◌, ◌<◌, ◌+◌, ◌++◌, ◌^◌, decimal, ℕ, List, length, IfOk, OnOk};
 ghost use Rattle.std.specs.String.{string_bytes};
-ghost use Rattle.pdn_keeper.specs.Batches.{BatchHeld};
-ghost use Rattle.pdn_commands.specs.Checking.{AreReported, IsReported, query_line, column_line, column_lines, dotted, leaf_text, leaves_text, segment_line, segment_lines, query_report};
+ghost use Rattle.pdn_commands.specs.Checking.{query_line, column_line, column_lines, dotted, leaf_text, leaves_text, segment_line, segment_lines, query_report, query_reporting, reporting};
 ghost use Rattle.pdn_commands.specs.Commands.{check_script};
-ghost use Rattle.pdn_commands.specs.Script.{column_name};
-ghost use Rattle.pdn_commands.specs.Questions.{told_by};
-ghost use Rattle.pdn_commands.specs.Stops.{end_of, IsNoPlan, NoReport};
-ghost use Rattle.pdn_commands.specs.Walk.{Goes, Wrote, RoseIn, counts};
+ghost use Rattle.pdn_query.specs.Script.{Script, column_name};
+ghost use Rattle.pdn_query.specs.Walk.{Came, Along};
+ghost use Rattle.pdn_query.specs.World.{WorldModel};
+ghost use Rattle.pdn_script.specs.Stops.{end_of};
 
-use crate::answer_text::query_name;
-use crate::bound::bound;
-use crate::inputs::{column_name, queries_of, read_inputs};
-use pdn_base::{Files, Memory, Sink, SinkErr};
+use crate::inputs::{queries_of, read_inputs};
+use pdn_base::Memory;
 use pdn_level::{Leaf, Segment, levels};
 use pdn_plan::{OutColumn, Plan};
+use pdn_query::{Outside, bound, column_name, query_name, say};
 use pdn_schema::{Schema, Table, print_schema};
 use pdn_script::Stop;
 use pdn_sql::{Query, print_query};
 use std::alloc::{AllocError, Global};
 
 /// Prints the schema and the report of each query of the file, in one put.
-pub fn check<F: Files, S: Sink>(
-    alloc: Global,
-    file: &str,
-    files: &mut F,
-    out: &mut S,
-) -> Result<(), Stop>
-    ensures goes { Wrote (S.written out.old) (S.written out.new) (λ text. (a b : Option (List BatchHeld)) (fails_a fails_b : ℕ) →
-        Goes (RoseIn (counts (F.faults files.old) fails_a fails_b (S.faults out.old)) (counts (F.faults files.new) fails_a fails_b (S.faults out.new)))
-        (told_by (F.held files.old) a b) (check_script file.now) text (end_of result) (told_by (F.held files.old) a b)) }
-    ensures same { F.held files.new ≡ F.held files.old }
-    ensures files_later { F.faults files.old ≤ F.faults files.new }
-    ensures sink_later { S.faults out.old ≤ S.faults out.new }
+pub fn check<W: Outside>(alloc: Global, file: &str, world: &mut W) -> Result<(), Stop>
+    ensures goes { Along (W.state world.old) (W.state world.new)
+        (check_script file.now) (end_of result) }
+    ensures same { (W.state world.new).told ≡ (W.state world.old).told }
 {
-    let inputs = read_inputs(alloc, file, files)?;
+    let inputs = read_inputs(alloc, file, world)?;
     let queries = queries_of(alloc, &inputs.text)?;
     let mut lines = reports(alloc, &inputs.schema, 1, &queries)?;
     let mut text = print_schema(alloc, &inputs.schema)?;
     text.append(&mut lines)?;
-    match out.put(&text) {
-        Ok(()) => Ok(()),
-        Err(SinkErr::Failed) => Err(Stop::Sink),
-    }
+    say(world, &text)
 }
 
 // The reports of queries, numbered from this number on, or the refusal of the first that has no plan.
-#[tactic(auto, using(crate::proofs::Checks::reported_more, crate::proofs::Checks::unreported_later))]
 fn reports(
     alloc: Global,
     schema: &Schema,
@@ -54,7 +40,8 @@ fn reports(
     queries: &[Query],
 ) -> Result<Vec<u8>, Stop>
     requires { number + length queries.now < 2 ^ 64 }
-    ensures { MatchResult result (λ text. AreReported schema.now number queries.now text.items) (NoReport schema.now queries.now) }
+    ensures { (w : WorldModel) (next : List ℕ → Script) →
+        Came w w (reporting schema.now number queries.now next) (λ text. next text.items) result }
 {
     let Some((query, later)) = queries.split_first() else {
         return Ok(Vec::new(alloc));
@@ -67,7 +54,9 @@ fn reports(
 
 // The report of one query, or the refusal.
 fn report(alloc: Global, schema: &Schema, number: usize, query: &Query) -> Result<Vec<u8>, Stop>
-    ensures { MatchResult result (λ text. IsReported schema.now number query.now text.items) (IsNoPlan schema.now query.now) }
+    ensures { (w : WorldModel) (next : List ℕ → Script) →
+        Came w w (query_reporting schema.now number query.now next)
+        (λ text. next text.items) result }
 {
     let plan = bound(alloc, schema, query)?;
     let text = query_report(alloc, schema, number, query, &plan)?;

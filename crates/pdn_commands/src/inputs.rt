@@ -1,17 +1,19 @@
 //! What a command reads first: the schema file, and a file of its own.
-ghost use Rattle.std.specs.Prelude.{◌≡◌, ◌≤◌, ◌<◌, ◌⊎◌, ◌-◌, ◌^◌, position, Some, Ok, length, IfOk, MatchResult};
+ghost use Rattle.std.specs.Prelude.{◌≡◌, ◌≤◌, ◌<◌, ◌-◌, ◌^◌, ℕ, List, [], position, length, IfOk};
 ghost use Rattle.std.specs.Str.{bytes_eq};
 ghost use Rattle.std.specs.String.{string_bytes};
 ghost use Rattle.std.specs.Option.{IfSome};
-ghost use Rattle.pdn_base.specs.Outside.{Rose};
-ghost use Rattle.pdn_schema.specs.Models.{TableModel};
-ghost use Rattle.pdn_schema.specs.Reading.{Says};
-ghost use Rattle.pdn_commands.specs.Questions.{Holds, AreQueriesIn};
-ghost use Rattle.pdn_commands.specs.Script.{table_number, column_name};
-ghost use Rattle.pdn_commands.specs.Stops.{stop_of, Missed, MissedInputs, IsNoSchema, AreNoQueries, Inputs as AreInputs};
-ghost use Rattle.pdn_commands.specs.Walk.{NoMemory};
+ghost use Rattle.pdn_schema.specs.Models.{SchemaModel, TableModel};
+ghost use Rattle.pdn_sql.specs.Reading.{Says as SaysQueries};
+ghost use Rattle.pdn_sql.specs.declared.query.Query.{Query as QueryModel};
+ghost use Rattle.pdn_query.specs.Script.{Script, column_name};
+ghost use Rattle.pdn_commands.specs.Script.{reading, with_schema, with_inputs, with_queries, table_number};
+ghost use Rattle.pdn_query.specs.Walk.{Came};
+ghost use Rattle.pdn_query.specs.World.{WorldModel};
+ghost use Rattle.pdn_script.specs.Stops.{IsRefusal};
 
-use pdn_base::{FileErr, Files, Memory, Name, Status, Who};
+use pdn_base::{FileErr, Memory, Name, Status, Who};
+use pdn_query::Outside;
 use pdn_schema::{Schema, SchemaErr, Table, read_schema};
 use pdn_script::{Stop, refused};
 use pdn_sql::{Query, SqlErr, read_queries};
@@ -28,44 +30,50 @@ pub struct Inputs {
 }
 
 /// Reads the schema file and then the file of this name, and then the schema from the first.
-pub fn read_inputs<F: Files>(alloc: Global, file: &str, files: &mut F) -> Result<Inputs, Stop>
-    ensures read { MatchResult result (λ inputs. AreInputs (F.held files.old) file.now inputs.schema inputs.text.items)
-        (λ stop. MissedInputs (Rose (F.faults files.old) (F.faults files.new)) (F.held files.old) file.now stop) }
+pub fn read_inputs<W: Outside>(alloc: Global, file: &str, world: &mut W) -> Result<Inputs, Stop>
+    ensures came { (next : SchemaModel → List ℕ → Script) →
+        Came (W.state world.old) (W.state world.new) (with_inputs file.now next)
+        (λ inputs. next inputs.schema inputs.text.items) result }
     ensures size { IfOk result (λ inputs. length inputs.text.items ≤ 536870912) }
-    ensures same { F.held files.new ≡ F.held files.old }
-    ensures later { F.faults files.old ≤ F.faults files.new }
+    ensures same { (W.state world.new).told ≡ (W.state world.old).told }
 {
-    let net = read(alloc, files, "net.schema")?;
-    let text = read(alloc, files, file)?;
+    let net = read(alloc, world, "net.schema")?;
+    let text = read(alloc, world, file)?;
     let schema = schema_of(alloc, &net)?;
     Ok(Inputs { schema, text })
 }
 
 // A file's bytes, or the refusal.
-fn read<F: Files>(alloc: Global, files: &mut F, name: &str) -> Result<Vec<u8>, Stop>
-    ensures read { MatchResult result (λ bytes. Holds (F.held files.old) name.now (Some bytes.items))
-        (λ stop. Missed (Rose (F.faults files.old) (F.faults files.new)) (F.held files.old) name.now stop) }
+fn read<W: Outside>(alloc: Global, world: &mut W, name: &str) -> Result<Vec<u8>, Stop>
+    ensures came { (next : List ℕ → Script) →
+        Came (W.state world.old) (W.state world.new) (reading name.now next)
+        (λ bytes. next bytes.items) result }
     ensures size { IfOk result (λ bytes. length bytes.items ≤ 536870912) }
-    ensures same { F.held files.new ≡ F.held files.old }
-    ensures later { F.faults files.old ≤ F.faults files.new }
+    ensures same { (W.state world.new).told ≡ (W.state world.old).told }
 {
-    match files.read(alloc, name) {
+    match world.read(alloc, name) {
         Ok(bytes) => Ok(bytes),
         Err(FileErr::Memory) => Err(Stop::Memory),
-        Err(FileErr::Absent) => Err(refused(
-            alloc,
-            Status::NoFile {
-                name: Name::new(alloc, name)?,
-            },
-        )),
+        Err(FileErr::Absent) => Err(no_file(alloc, name)),
         Err(FileErr::Failed) => Err(refused(alloc, Status::Unavailable { who: Who::Files })),
+    }
+}
+
+// The refusal of a name that no file has.
+fn no_file(alloc: Global, name: &str) -> Stop
+    ensures { IsRefusal [] [] (Status.NoFile name.now) result }
+{
+    match Name::new(alloc, name) {
+        Ok(name) => refused(alloc, Status::NoFile { name }),
+        Err(_) => Stop::Memory,
     }
 }
 
 // The schema that bytes say, or the refusal.
 fn schema_of(alloc: Global, bytes: &[u8]) -> Result<Schema, Stop>
     requires { length bytes.now < 2 ^ 32 - 1 }
-    ensures { MatchResult result (λ schema. Says bytes.now schema) (λ stop. IsNoSchema bytes.now stop ⊎ (stop_of stop ≡ NoMemory)) }
+    ensures { (w : WorldModel) (next : SchemaModel → Script) →
+        Came w w (with_schema bytes.now next) (λ schema. next schema) result }
 {
     match read_schema(alloc, bytes) {
         Ok(schema) => Ok(schema),
@@ -79,7 +87,9 @@ fn schema_of(alloc: Global, bytes: &[u8]) -> Result<Schema, Stop>
 /// The queries that bytes say, or the refusal.
 pub fn queries_of(alloc: Global, bytes: &[u8]) -> Result<Vec<Query>, Stop>
     requires { length bytes.now < 2 ^ 32 }
-    ensures { MatchResult result (λ queries. AreQueriesIn bytes.now (Ok queries.items)) (AreNoQueries bytes.now) }
+    ensures came { (w : WorldModel) (next : List QueryModel → Script) →
+        Came w w (with_queries bytes.now next) (λ queries. next queries.items) result }
+    ensures says { IfOk result (λ queries. SaysQueries 16 bytes.now queries.items) }
 {
     match read_queries(alloc, bytes, MOST_QUERIES) {
         Ok(queries) => Ok(queries),
@@ -104,14 +114,4 @@ fn table_place(tables: &[Table], name: &str) -> Option<usize>
     ensures in_range { IfSome result (λ at. at < length tables.now) }
 {
     tables.iter().position(|table| table.name.as_str() == name)
-}
-
-/// The name of a column, or its number where there is none.
-pub fn column_name(alloc: Global, table: &Table, column: u32) -> Result<String, Memory>
-    ensures { IfOk result (λ name. string_bytes name ≡ column_name table.now column) }
-{
-    match table.columns.get(column as usize) {
-        Some(column) => Ok(String::from_str(alloc, column.name.as_str())?),
-        None => Ok(format!(in alloc; "{column}")?),
-    }
 }

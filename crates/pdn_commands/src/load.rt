@@ -1,20 +1,21 @@
 //! `load`: one batch of a table for one site.
-ghost use Rattle.std.specs.Prelude.{◌≡◌, ◌≤◌, ◌<◌, ◌⊎◌, ◌-◌, ◌^◌, [], ℕ, List, Option, Some, Ok, length, IfOk, MatchResult};
+ghost use Rattle.std.specs.Prelude.{◌≡◌, ◌<◌, [], ℕ, List, Some, length, IfOk, IfErr};
 ghost use Rattle.std.specs.String.{string_bytes};
 ghost use Rattle.pdn_base.specs.Bounds.{IsShort};
-ghost use Rattle.pdn_base.specs.Outside.{Rose};
+ghost use Rattle.pdn_base.specs.Operators.{Rows as RowsModel};
 ghost use Rattle.pdn_base.specs.Texts.{refusal};
 ghost use Rattle.pdn_schema.specs.Models.{table_of};
-ghost use Rattle.pdn_keeper.specs.Batches.{BatchHeld};
-ghost use Rattle.pdn_commands.specs.Questions.{AreRowsIn, who_of, told_at};
-ghost use Rattle.pdn_commands.specs.Script.{load_script, loaded_text, column_name};
-ghost use Rattle.pdn_commands.specs.Stops.{end_of, IsRefusal, AreNoRows, Took, NotTook};
-ghost use Rattle.pdn_commands.specs.Walk.{Goes, Wrote, RoseIn, counts_at, NoMemory};
+ghost use Rattle.pdn_query.specs.Questions.{OnlyAt};
+ghost use Rattle.pdn_query.specs.Script.{Script, column_name};
+ghost use Rattle.pdn_commands.specs.Script.{importing, handing, load_script, loaded_text};
+ghost use Rattle.pdn_query.specs.Walk.{Came, Along, NoMemory};
+ghost use Rattle.pdn_query.specs.World.{WorldModel};
+ghost use Rattle.pdn_script.specs.Stops.{end_of, stop_of, IsRefusal};
 
-use crate::inputs::{column_name, read_inputs, table_number};
-use crate::who::who_of;
-use pdn_base::{Files, Memory, Name, Rows, Sink, SinkErr, Site, Status, Who};
-use pdn_keeper::{AddErr, Added, CsvErr, SiteKeeper, import_csv};
+use crate::inputs::{read_inputs, table_number};
+use pdn_base::{Memory, Name, Rows, Site, Status, Who};
+use pdn_keeper::{AddErr, Added, CsvErr, import_csv};
+use pdn_query::{Batch, Outside, column_name, say, who_of};
 use pdn_schema::{Schema, Table};
 use pdn_script::{Stop, refused, refused_at};
 use std::alloc::Global;
@@ -28,42 +29,40 @@ pub struct BatchFile<'a> {
 }
 
 /// Hands a batch to a site, and puts the line that says how it was taken.
-pub fn load<F: Files, K: SiteKeeper, S: Sink>(
+pub fn load<W: Outside>(
     alloc: Global,
     site: Site,
     load: BatchFile<'_>,
-    files: &mut F,
-    keeper: &mut K,
-    out: &mut S,
+    world: &mut W,
 ) -> Result<(), Stop>
-    ensures goes { Wrote (S.written out.old) (S.written out.new) (λ text. (other : Option (List BatchHeld)) (fails : ℕ) →
-        Goes (RoseIn (counts_at site (F.faults files.old) (K.faults keeper.old) fails (S.faults out.old)) (counts_at site (F.faults files.new) (K.faults keeper.new) fails (S.faults out.new)))
-        (told_at site (F.held files.old) (K.batches keeper.old) other) (load_script site load.entry.table.now load.entry.number load.entry.file.now) text (end_of result)
-        (told_at site (F.held files.old) (K.batches keeper.new) other)) }
-    ensures spared { end_of result ≡ NoMemory → K.batches keeper.new ≡ K.batches keeper.old }
-    ensures same { F.held files.new ≡ F.held files.old }
-    ensures files_later { F.faults files.old ≤ F.faults files.new }
-    ensures keeper_later { K.faults keeper.old ≤ K.faults keeper.new }
-    ensures sink_later { S.faults out.old ≤ S.faults out.new }
+    ensures goes { Along (W.state world.old) (W.state world.new)
+        (load_script site load.entry.table.now load.entry.number load.entry.file.now)
+        (end_of result) }
+    ensures only { OnlyAt site (W.state world.old).told (W.state world.new).told }
+    ensures spared { end_of result ≡ NoMemory
+        → (W.state world.new).told ≡ (W.state world.old).told }
 {
-    let inputs = read_inputs(alloc, load.file, files)?;
+    let inputs = read_inputs(alloc, load.file, world)?;
     let Some(table) = table_number(&inputs.schema, load.table) else {
-        let name = Name::new(alloc, load.table)?;
-        return Err(refused(alloc, Status::Plan { kind: 1, name }));
+        return Err(no_table(alloc, load.table));
     };
     let rows = rows_of(alloc, &inputs.schema, table, &inputs.text)?;
-    let text = hand_over(
-        alloc,
-        site,
-        &inputs.schema,
+    let batch = Batch {
         table,
-        load.number,
-        &rows,
-        keeper,
-    )?;
-    match out.put(text.as_bytes()) {
-        Ok(()) => Ok(()),
-        Err(SinkErr::Failed) => Err(Stop::Sink),
+        number: load.number,
+        rows: &rows,
+    };
+    let text = hand_over(alloc, site, &inputs.schema, batch, world)?;
+    say(world, text.as_bytes())
+}
+
+// The refusal of a name that no table has.
+fn no_table(alloc: Global, name: &str) -> Stop
+    ensures { IsRefusal [] [] (Status.Plan 1 name.now) result }
+{
+    match Name::new(alloc, name) {
+        Ok(name) => refused(alloc, Status::Plan { kind: 1, name }),
+        Err(_) => Stop::Memory,
     }
 }
 
@@ -71,7 +70,8 @@ pub fn load<F: Files, K: SiteKeeper, S: Sink>(
 fn rows_of(alloc: Global, schema: &Schema, table: u32, bytes: &[u8]) -> Result<Rows, Stop>
     requires in_range { table < length schema.now.tables }
     requires short { IsShort bytes.now }
-    ensures { MatchResult result (λ rows. AreRowsIn (table_of schema.now table) bytes.now (Ok rows)) (AreNoRows (table_of schema.now table) bytes.now) }
+    ensures { (w : WorldModel) (next : RowsModel → Script) →
+        Came w w (importing (table_of schema.now table) bytes.now next) (λ rows. next rows) result }
 {
     match import_csv(alloc, schema, table, bytes) {
         Ok(rows) => Ok(rows),
@@ -82,26 +82,29 @@ fn rows_of(alloc: Global, schema: &Schema, table: u32, bytes: &[u8]) -> Result<R
 
 // The line that says how a site took a batch. Both such lines and that of a site that fails are made before the site is
 // asked, so that memory can't run out behind it.
-fn hand_over<K: SiteKeeper>(
+fn hand_over<W: Outside>(
     alloc: Global,
     site: Site,
     schema: &Schema,
-    table: u32,
-    number: u64,
-    rows: &Rows,
-    keeper: &mut K,
+    batch: Batch<'_>,
+    world: &mut W,
 ) -> Result<String, Stop>
-    requires { table < length schema.now.tables }
-    ensures taken { MatchResult result (λ text. Took (K.batches keeper.old) (K.batches keeper.new) (table_of schema.now table) number rows.now (string_bytes text))
-        (NotTook (Rose (K.faults keeper.old) (K.faults keeper.new)) (who_of site) (K.batches keeper.old) (K.batches keeper.new) (table_of schema.now table) number rows.now) }
-    ensures later { K.faults keeper.old ≤ K.faults keeper.new }
+    requires { batch.table < length schema.now.tables }
+    ensures came { (next : List ℕ → Script) →
+        Came (W.state world.old) (W.state world.new)
+        (handing site (table_of schema.now batch.entry.table) batch.entry.number
+        batch.entry.rows.now next)
+        (λ text. next (string_bytes text)) result }
+    ensures only { OnlyAt site (W.state world.old).told (W.state world.new).told }
+    ensures spared { IfErr result (λ stop. stop_of stop ≡ NoMemory
+        → (W.state world.new).told ≡ (W.state world.old).told) }
 {
-    let named = schema.table(table);
-    let new = loaded_text(alloc, "new", named, number, rows)?;
-    let again = loaded_text(alloc, "again", named, number, rows)?;
+    let named = schema.table(batch.table);
+    let new = loaded_text(alloc, "new", named, batch.number, batch.rows)?;
+    let again = loaded_text(alloc, "again", named, batch.number, batch.rows)?;
     let who = who_of(site);
     let line = failed_line(alloc, who)?;
-    match keeper.add_batch(alloc, schema, table, number, rows) {
+    match world.add_batch(alloc, site, schema, batch) {
         Ok(Added::New) => Ok(new),
         Ok(Added::Again) => Ok(again),
         Err(AddErr::Failed) => Err(Stop::Refused {

@@ -1,0 +1,24 @@
+-- What the words of a command line ask for.
+use Rattle.std.proofs.Common.{◌≡◌, ℕ, List, sym, subst, Some, Option}
+use Rattle.std.specs.Prelude.{false}
+use Rattle.pdn_base.specs.declared.site.Site.{Site}
+use Rattle.pdn_base.specs.declared.site.Site.TheVariants.{A, B}
+use Rattle.pdn_query.specs.Questions.{Told, OnlyAt}
+use Rattle.pdn_query.specs.Walk.{End, Along}
+use Rattle.pdn_query.specs.World.{WorldModel}
+use Rattle.pdn_commands.specs.Commands.{Task, Load, task_of, task_script, script, loads}
+
+-- the script is that of the task that the words ask for
+pub asked : {a b : WorldModel} {end : End} (words : List (List ℕ)) (task : Option Task) → task ≡ task_of words → Along a b (task_script task) end → Along a b (script words) end
+asked {a} {b} {end} words task is w = subst (λ (t : Option Task). Along a b (task_script t) end) is w
+
+-- ---- which site a load changes
+
+module _ (table : List ℕ) (number : ℕ) (file : List ℕ) (task : Option Task) (old new : Told) where
+  pub kept_a : (site : Site) → Some (Load site table number file) ≡ task → OnlyAt site old new → loads A task ≡ false → new.a ≡ old.a
+  kept_a A e only off = let on : loads A (Some (Load A table number file)) ≡ false = subst (λ (t : Option Task). loads A t ≡ false) (sym e) off in cc
+  kept_a B e only off = only.1
+
+  pub kept_b : (site : Site) → Some (Load site table number file) ≡ task → OnlyAt site old new → loads B task ≡ false → new.b ≡ old.b
+  kept_b A e only off = only.1
+  kept_b B e only off = let on : loads B (Some (Load B table number file)) ≡ false = subst (λ (t : Option Task). loads B t ≡ false) (sym e) off in cc

@@ -1,0 +1,129 @@
+-- Going along the script of queries.
+use Rattle.std.proofs.Common.{◌≡◌, ℕ, suc, zero, ◌+◌, ◌≤◌, ◌<◌, ◌++◌, List, [], ◌∷◌, length, drop, get_or, refl, sym, subst, ap, ◌∙◌, None, Some, Ok, inl, inr, arith, append-nil, append_assoc}
+use Rattle.std.proofs.lemmas.List.{drop_more, drop_all}
+use Rattle.std.specs.Prelude.{Bool, true, false}
+use Rattle.pdn_base.specs.Operators.{Rows}
+use Rattle.pdn_base.specs.declared.site.Site.{Site}
+use Rattle.pdn_base.specs.declared.site.Site.TheVariants.{A, B}
+use Rattle.pdn_base.specs.declared.status.Status.TheVariants as status
+use Rattle.pdn_schema.specs.Models.{SchemaModel, TableModel, no_table}
+use Rattle.pdn_schema.specs.Rows.{IsValid, AreValid, union}
+use Rattle.pdn_sql.specs.declared.query.Query.{Query}
+use Rattle.pdn_plan.specs.Answer.{answer}
+use Rattle.pdn_tree.specs.declared.node.Node.{Node}
+use Rattle.pdn_tree.specs.declared.plan.OutColumn.{OutColumn}
+use Rattle.pdn_site.specs.Models.{UnitModel}
+use Rattle.pdn_site.specs.Compiling.{Compiled}
+use Rattle.pdn_script.specs.Stops.{IsRefusal, stop_of}
+use Rattle.pdn_script.specs.declared.stop.Stop.{Stop}
+use Rattle.pdn_query.specs.Answering.{scans, asking_if, asking, wrong_column, or_wrong, judging, units_over, or_large, judging_both, answer_text, AllValid}
+use Rattle.pdn_query.specs.Gathering.{WrongRows, WrongTable, LargeUnit, NotReady, IsMeant}
+use Rattle.pdn_query.specs.Questions.{Valid}
+use Rattle.pdn_query.specs.Script.{Script}
+use Rattle.pdn_query.specs.Walk.{End, NoMemory, Along, Leads}
+use Rattle.pdn_query.specs.World.{WorldModel}
+use Rattle.pdn_query.proofs.Walks.{leads_on, leads_along, begun, halted, known, refused}
+
+-- ---- the rows that a site gives
+
+-- a table that isn't scanned has none
+pub unasked : (w : WorldModel) (site : Site) (scanned : Bool) (t : TableModel) (rows : Rows) (next : Rows → Script) → scanned ≡ false → rows ≡ [] → Leads w w (asking_if scanned site t next) (next rows)
+unasked w site true t rows next e none = cc
+unasked w site false t rows next e none = rw (none) (begun w (next []))
+
+-- So far a site gave the rows of the first tables, and those of the tables from this one on are still to be asked for.
+pub record Gathering (old now : WorldModel) (site : Site) (root : Node) (ts : List TableModel) (at : ℕ) (lists : List Rows) : Type 0 where
+  pub glue : List Rows → List Rows
+  pub glues : (more : List Rows) → glue more ≡ lists ++ more
+  pub leads : (next : List Rows → Script) → Leads old now (asking site root 0 ts next) (asking site root at (drop at ts) (λ more. next (glue more)))
+
+module _ {old : WorldModel} {site : Site} {root : Node} {ts : List TableModel} where
+  pub Gathering-begin : (lists : List Rows) → lists ≡ [] → Gathering old old site root ts 0 lists
+  Gathering-begin lists none = record { glue = λ more. more; glues = λ more. rw (none) refl; leads = λ next. begun old (asking site root 0 ts next) }
+
+  module _ {mid : WorldModel} {at : ℕ} {lists : List Rows} (g : Gathering old mid site root ts at lists) where
+    -- the next table is to be asked for
+    here : (next : List Rows → Script) → at < length ts →
+        Leads old mid (asking site root 0 ts next) (asking_if (scans at root) site (get_or ts at no_table) (λ rows. asking site root (at + 1) (drop (at + 1) ts) (λ more. next (g.glue (rows ∷ more)))))
+    here next l = subst (λ (xs : List TableModel). Leads old mid (asking site root 0 ts next) (asking site root at xs (λ more. next (g.glue more)))) (drop_more ts at no_table l) (g.leads next)
+
+    pub Gathering-next : {now : WorldModel} (rows : Rows) → at < length ts → ((next : Rows → Script) → Leads mid now (asking_if (scans at root) site (get_or ts at no_table) next) (next rows)) →
+        Gathering old now site root ts (at + 1) (lists ++ rows ∷ [])
+    Gathering-next rows l step = record {
+      glue = λ more. g.glue (rows ∷ more);
+      glues = λ more. g.glues (rows ∷ more) ∙ sym (append_assoc lists (rows ∷ []) more);
+      leads = λ next. leads_on (here next l) (step (λ rows. asking site root (at + 1) (drop (at + 1) ts) (λ more. next (g.glue (rows ∷ more)))));
+    }
+
+    pub Gathering-stopped : {now : WorldModel} (end : End) (next : List Rows → Script) → at < length ts → ((next : Rows → Script) → Along mid now (asking_if (scans at root) site (get_or ts at no_table) next) end) →
+        Along old now (asking site root 0 ts next) end
+    Gathering-stopped end next l stops = leads_along (here next l) (stops (λ rows. asking site root (at + 1) (drop (at + 1) ts) (λ more. next (g.glue (rows ∷ more)))))
+
+    pub Gathering-halted : (end : End) (next : List Rows → Script) → end ≡ NoMemory → Along old mid (asking site root 0 ts next) end
+    Gathering-halted end next is = leads_along (g.leads next) (halted mid (asking site root at (drop at ts) (λ more. next (g.glue more))) end is)
+
+    -- all tables were asked for
+    pub Gathering-all : (next : List Rows → Script) → length ts ≤ at → Leads old mid (asking site root 0 ts next) (next lists)
+    Gathering-all next l =
+        let some : Leads old mid (asking site root 0 ts next) (next (g.glue [])) =
+        subst (λ (xs : List TableModel). Leads old mid (asking site root 0 ts next) (asking site root at xs (λ more. next (g.glue more)))) (drop_all at ts l) (g.leads next) in
+        subst (λ (rows : List Rows). Leads old mid (asking site root 0 ts next) (next rows)) (g.glues [] ∙ append-nil lists) some
+
+-- ---- rows that are judged
+
+-- valid tables, one after the other
+all_valid : (ts : List TableModel) (tables : List Rows) → ((t : ℕ) → t < length ts → IsValid (get_or ts t no_table) (get_or tables t [])) → AllValid ts tables
+all_valid [] tables each = tt
+all_valid (t ∷ ts) [] each = tt
+all_valid (t ∷ ts) (rows ∷ tables) each = (each 0 (omega arith), all_valid ts tables (λ k l. each (suc k) (omega (arith, l))))
+
+module _ (w : WorldModel) where
+  judged : (site : Site) (at : ℕ) (ts : List TableModel) (tables : List Rows) (next : Script) → AllValid ts tables → Leads w w (judging site at ts tables next) next
+  judged site at [] tables next v = begun w next
+  judged site at (t ∷ ts) [] next v = begun w next
+  judged site at (t ∷ ts) (rows ∷ tables) next v = leads_on (known w (Valid t rows) (or_wrong site at t (judging site (at + 1) ts tables next)) None refl v.0) (judged site (at + 1) ts tables next v.1)
+
+  -- the rows of the table k places after the first are refused
+  wrong_after : (site : Site) (at : ℕ) (ts : List TableModel) (tables : List Rows) (next : Script) (k place : ℕ) (stop : Stop) → place ≡ at + k → length tables ≡ length ts → k < length ts →
+      ((t : ℕ) → t < k → IsValid (get_or ts t no_table) (get_or tables t [])) → WrongRows site place (get_or ts k no_table) (get_or tables k []) stop →
+      Along w w (judging site at ts tables next) (stop_of stop)
+  wrong_after site at [] tables next k place stop same e l before r = absurd (omega (arith, l))
+  wrong_after site at (t ∷ ts) [] next k place stop same e l before r = absurd (omega (arith, e))
+  wrong_after site at (t ∷ ts) (rows ∷ tables) next zero place stop same e l before r =
+      let here : place ≡ at = omega (arith, same) in
+      leads_along (known w (Valid t rows) (or_wrong site at t (judging site (at + 1) ts tables next)) (Some r.wrong) refl r.is)
+      (refused w t.name (wrong_column t r.wrong) (status.BadRows site at r.wrong) stop (subst (λ (n : ℕ). IsRefusal t.name (wrong_column t r.wrong) (status.BadRows site n r.wrong) stop) here r.refused))
+  wrong_after site at (t ∷ ts) (rows ∷ tables) next (suc k) place stop same e l before r =
+      leads_along (known w (Valid t rows) (or_wrong site at t (judging site (at + 1) ts tables next)) None refl (before 0 (omega arith)))
+      (wrong_after site (at + 1) ts tables next k place stop (omega (arith, same)) (omega (arith, e)) (omega (arith, l)) (λ j m. before (suc j) (omega (arith, m))) r)
+
+  wrong_table : (s : SchemaModel) (site : Site) (tables : List Rows) (next : Script) (stop : Stop) → length tables ≡ length s.tables → WrongTable s site tables stop →
+      Along w w (judging site 0 s.tables tables next) (stop_of stop)
+  wrong_table s site tables next stop e t = let here : t.at ≡ 0 + t.at = omega arith in wrong_after site 0 s.tables tables next t.at t.at stop here e t.within t.before t.here
+
+  all_judged : (s : SchemaModel) (site : Site) (tables : List Rows) (next : Script) → AreValid s tables → Leads w w (judging site 0 s.tables tables next) next
+  all_judged s site tables next v = judged site 0 s.tables tables next (all_valid s.tables tables v.each)
+
+  units_on : (next : Script) (units : List UnitModel) (compiled : Compiled) → compiled ≡ Ok units → Leads w w (or_large next compiled) next
+  units_on next units compiled e = subst (λ (c : Compiled). Leads w w (or_large next c) next) (sym e) (begun w next)
+
+  large : (next : Script) (s : SchemaModel) (root : Node) (a b : List Rows) (stop : Stop) → LargeUnit s root a b stop → Along w w (or_large next (units_over s root a b)) (stop_of stop)
+  large next s root a b stop u = subst (λ (c : Compiled). Along w w (or_large next c) (stop_of stop)) (sym u.passes) (refused w [] [] (status.TooLarge u.limit u.unit) stop u.refused)
+
+  module _ (s : SchemaModel) (root : Node) (a b : List Rows) where
+    -- what is ready
+    pub ready_on : (query : Query) (rows : Rows) (next : Script) → IsMeant s query root a b rows → Leads w w (judging_both s root a b next) next
+    ready_on query rows next m = leads_on (all_judged s A a _ m.valid_a) (leads_on (all_judged s B b _ m.valid_b) (units_on next m.units (units_over s root a b) m.fits))
+
+    pub answer_on : (query : Query) (number ticket : ℕ) (columns : List OutColumn) (next : List ℕ → Script) (rows : Rows) (text : List ℕ) → IsMeant s query root a b rows →
+        text ≡ answer_text number ticket columns rows → Leads w w (judging_both s root a b (next (answer_text number ticket columns (answer s (union a b) query)))) (next text)
+    answer_on query number ticket columns next rows text m printed =
+        let whole : List ℕ = answer_text number ticket columns (answer s (union a b) query) in
+        subst (λ (xs : List ℕ). Leads w w (judging_both s root a b (next whole)) (next xs)) (sym (printed ∙ ap (answer_text number ticket columns) m.means)) (ready_on query rows (next whole) m)
+
+    -- what isn't
+    pub unready : (next : Script) (stop : Stop) → length a ≡ length s.tables → length b ≡ length s.tables → NotReady s root a b stop → Along w w (judging_both s root a b next) (stop_of stop)
+    unready next stop ea eb (inl t) = wrong_table s A a _ stop ea t
+    unready next stop ea eb (inr (inl (va, t))) = leads_along (all_judged s A a _ va) (wrong_table s B b _ stop eb t)
+    unready next stop ea eb (inr (inr (inl (va, vb, u)))) = leads_along (all_judged s A a _ va) (leads_along (all_judged s B b _ vb) (large next s root a b stop u))
+    unready next stop ea eb (inr (inr (inr short))) = halted w (judging_both s root a b next) (stop_of stop) short

@@ -1,0 +1,49 @@
+-- What both sites' rows of a query come to: what the query means over their union, or why they are refused.
+use Rattle.std.specs.Prelude.{◌≡◌, ◌⊎◌, ◌<◌, ℕ, List, [], length, get_or, Ok, Err}
+use Rattle.pdn_base.specs.Operators.{Rows}
+use Rattle.pdn_base.specs.declared.rows_err.RowsErr.{RowsErr}
+use Rattle.pdn_base.specs.declared.site.Site.{Site}
+use Rattle.pdn_base.specs.declared.site.Site.TheVariants.{A, B}
+use Rattle.pdn_base.specs.declared.status.Status.TheVariants as status
+use Rattle.pdn_schema.specs.Models.{SchemaModel, TableModel, table_of}
+use Rattle.pdn_schema.specs.Rows.{IsValid, IsRefused, AreValid, union}
+use Rattle.pdn_sql.specs.declared.query.Query.{Query}
+use Rattle.pdn_tree.specs.declared.node.Node.{Node}
+use Rattle.pdn_plan.specs.Answer.{answer}
+use Rattle.pdn_site.specs.Models.{UnitModel}
+use Rattle.pdn_script.specs.declared.stop.Stop.{Stop}
+use Rattle.pdn_script.specs.Stops.{stop_of, IsRefusal}
+use Rattle.pdn_query.specs.Answering.{units_over, wrong_column}
+use Rattle.pdn_query.specs.Walk.{NoMemory}
+
+-- a site's rows of a table are refused
+pub record WrongRows (site : Site) (at : ℕ) (t : TableModel) (rows : Rows) (stop : Stop) : Type 0 where
+  pub wrong : RowsErr
+  pub is : IsRefused t rows wrong
+  pub refused : IsRefusal t.name (wrong_column t wrong) (status.BadRows site at wrong) stop
+
+-- the first of a site's tables whose rows aren't valid is refused
+pub record WrongTable (s : SchemaModel) (site : Site) (tables : List Rows) (stop : Stop) : Type 0 where
+  pub at : ℕ
+  pub within : at < length s.tables
+  pub before : (t : ℕ) → t < at → IsValid (table_of s t) (get_or tables t [])
+  pub here : WrongRows site at (table_of s at) (get_or tables at []) stop
+
+-- the first unit that passes a limit is refused
+pub record LargeUnit (s : SchemaModel) (root : Node) (a b : List Rows) (stop : Stop) : Type 0 where
+  pub limit : ℕ
+  pub unit : ℕ
+  pub passes : units_over s root a b ≡ Err (limit, unit)
+  pub refused : IsRefusal [] [] (status.TooLarge limit unit) stop
+
+-- rows of A are refused, or else rows of B, or else a unit; or memory ran out
+abbrev pub NotReady : SchemaModel → Node → List Rows → List Rows → Stop → Type 0
+NotReady s root a b stop = WrongTable s A a stop ⊎ (AreValid s a × WrongTable s B b stop) ⊎ (AreValid s a × AreValid s b × LargeUnit s root a b stop) ⊎ (stop_of stop ≡ NoMemory)
+
+-- These tables are valid, the units over them pass no limit, and the query means these rows over their union.
+pub record IsMeant (s : SchemaModel) (query : Query) (root : Node) (a b : List Rows) (rows : Rows) : Type 0 where
+  pub valid_a : AreValid s a
+  pub valid_b : AreValid s b
+  pub units : List UnitModel
+  pub fits : units_over s root a b ≡ Ok units
+  pub means : rows ≡ answer s (union a b) query

@@ -1,0 +1,6 @@
+pub mod Questions
+pub mod World
+pub mod Script
+pub mod Walk
+pub mod Answering
+pub mod Gathering

@@ -1,0 +1,180 @@
+//! The answer to a query: both sites' rows are asked for, judged, and answered over their union.
+ghost use Rattle.std.specs.Prelude.{◌≡◌, ◌<◌, ◌-◌, ◌^◌, ℕ, List, None, Ok, length, true, IfOk, MatchResult};
+ghost use Rattle.std.specs.List.{All};
+ghost use Rattle.std.specs.String.{string_bytes};
+ghost use Rattle.pdn_base.specs.Operators.{Rows as RowsModel};
+ghost use Rattle.pdn_schema.specs.Models.{table_of};
+ghost use Rattle.pdn_schema.specs.Rows.{AreValid, union};
+ghost use Rattle.pdn_plan.specs.Answer.{IsWritten, answer};
+ghost use Rattle.pdn_plan.specs.Binding.{refusal};
+ghost use Rattle.pdn_plan.specs.Planning.{root};
+ghost use Rattle.pdn_tree.specs.Shapes.{shape};
+ghost use Rattle.pdn_broker.specs.Prepared.{IsPrepared, IsOf};
+ghost use Rattle.pdn_query.specs.Answering.{query_answer, wrong_column};
+ghost use Rattle.pdn_query.specs.Gathering.{NotReady, IsMeant};
+ghost use Rattle.pdn_query.specs.Questions.{IsBound};
+ghost use Rattle.pdn_query.specs.Script.{Script};
+ghost use Rattle.pdn_query.specs.Walk.{Came};
+ghost use Rattle.pdn_script.specs.Stops.{IsRefusal};
+
+use crate::answer_text::answer_text;
+use crate::binding::bound;
+use crate::columns::column_name;
+use crate::tables::tables_at;
+use crate::world::Outside;
+use pdn_base::{Memory, Rows, RowsErr, Site, Status, Tables};
+use pdn_broker::{PrepareErr, Prepared, answer, prepare};
+use pdn_dealer::Deal;
+use pdn_plan::{Plan, plan_means_answer, valid_unions_fit};
+use pdn_schema::{Schema, Table};
+use pdn_script::{Stop, refused, refused_at};
+use pdn_sql::Query;
+use std::alloc::Global;
+
+/// A query of a file: its number there, and the ticket of its sections of the tape.
+#[derive(Clone, Copy)]
+pub struct Numbered<'a> {
+    pub number: u64,
+    pub ticket: u64,
+    pub query: &'a Query,
+}
+
+/// The text of the answer to a query, over the rows of both sites.
+pub fn query_answer<W: Outside, D: Deal>(
+    alloc: Global,
+    schema: &Schema,
+    asked: Numbered<'_>,
+    world: &mut W,
+    deal: &D,
+) -> Result<Vec<u8>, Stop>
+    requires written { IsWritten asked.query.now }
+    ensures came { (next : List ℕ → Script) →
+        Came (W.state world.old) (W.state world.new)
+        (query_answer schema.now asked.entry.number asked.entry.ticket
+        asked.entry.query.now next)
+        (λ text. next text.items) result }
+    ensures same { (W.state world.new).told ≡ (W.state world.old).told }
+{
+    let plan = bound(alloc, schema, asked.query)?;
+    let a = tables_at(alloc, Site::A, schema, &plan, world)?;
+    let b = tables_at(alloc, Site::B, schema, &plan, world)?;
+    let rows = meant_rows(alloc, schema, asked, &plan, a, b, deal)?;
+    Ok(answer_text(alloc, asked.number, asked.ticket, &plan, &rows)?)
+}
+
+// The rows that a query means over the union of both sites' tables, or the refusal.
+fn meant_rows<D: Deal>(
+    alloc: Global,
+    schema: &Schema,
+    asked: Numbered<'_>,
+    plan: &Plan,
+    a: Tables,
+    b: Tables,
+    deal: &D,
+) -> Result<Rows, Stop>
+    requires written { IsWritten asked.query.now }
+    requires binds { IsBound schema.now asked.query.now (Ok plan.now) }
+    requires sound { (shape schema.now plan.now.root).sound ≡ true }
+    requires count_a { length a ≡ length schema.now.tables }
+    requires count_b { length b ≡ length schema.now.tables }
+    requires few_a { All (λ (rows : RowsModel). length rows < 2 ^ 32 - 1) a }
+    requires few_b { All (λ (rows : RowsModel). length rows < 2 ^ 32 - 1) b }
+    ensures { MatchResult result
+        (λ rows. IsMeant schema.now asked.entry.query.now plan.now.root a b rows)
+        (NotReady schema.now plan.now.root a b) }
+{
+    let prepared = ready(alloc, schema, plan, a, b)?;
+    is_prepared(&prepared);
+    let rows = answered_rows(alloc, schema, asked.query, asked.ticket, prepared, deal)?;
+    Ok(rows)
+}
+
+// What a query that is made ready keeps.
+fn is_prepared(prepared: &Prepared)
+    ensures { IsPrepared prepared.now }
+{
+    let _units = prepared.units();
+}
+
+// The answer of a query that is made ready.
+fn answered_rows<D: Deal>(
+    alloc: Global,
+    schema: &Schema,
+    query: &Query,
+    ticket: u64,
+    prepared: Prepared,
+    deal: &D,
+) -> Result<Rows, Memory>
+    requires written { IsWritten query.now }
+    requires passes { refusal schema.now query.now ≡ None }
+    requires root { prepared.a.root ≡ root schema.now query.now }
+    requires valid_a { AreValid schema.now prepared.a.tables }
+    requires valid_b { AreValid schema.now prepared.b.tables }
+    ensures { IfOk result (λ rows. rows ≡ answer schema.now (union prepared.a.tables prepared.b.tables) query.now) }
+{
+    // A file has at most 16 queries.
+    if ticket >= 1 << 40 {
+        return Err(Memory);
+    }
+    valid_unions_fit(schema);
+    plan_means_answer(schema, query);
+    let answered = answer(alloc, prepared, ticket, deal)?;
+    Ok(answered.rows)
+}
+
+// The query made ready over both sites' tables, or the refusal.
+fn ready(
+    alloc: Global,
+    schema: &Schema,
+    plan: &Plan,
+    a: Tables,
+    b: Tables,
+) -> Result<Prepared, Stop>
+    requires sound { (shape schema.now plan.now.root).sound ≡ true }
+    requires count_a { length a ≡ length schema.now.tables }
+    requires count_b { length b ≡ length schema.now.tables }
+    requires few_a { All (λ (rows : RowsModel). length rows < 2 ^ 32 - 1) a }
+    requires few_b { All (λ (rows : RowsModel). length rows < 2 ^ 32 - 1) b }
+    ensures { MatchResult result
+        (λ prepared. IsOf schema.now plan.now.root a b prepared)
+        (NotReady schema.now plan.now.root a b) }
+{
+    match prepare(alloc, schema, plan, a, b) {
+        Ok(prepared) => Ok(prepared),
+        Err(PrepareErr::Rows { site, table, cause }) => {
+            Err(wrong_rows(alloc, schema, site, table, cause))
+        }
+        Err(PrepareErr::TooLarge { limit, unit }) => {
+            Err(refused(alloc, Status::TooLarge { limit, unit }))
+        }
+        Err(PrepareErr::Memory) => Err(Stop::Memory),
+    }
+}
+
+// The refusal of a site's rows of a table.
+fn wrong_rows(alloc: Global, schema: &Schema, site: Site, table: u32, wrong: RowsErr) -> Stop
+    requires { table < length schema.now.tables }
+    ensures { IsRefusal (table_of schema.now table).name (wrong_column (table_of schema.now table) wrong) (Status.BadRows site table wrong) result }
+{
+    let named = schema.table(table);
+    let Ok(column) = wrong_column(alloc, named, wrong) else {
+        return Stop::Memory;
+    };
+    let status = Status::BadRows {
+        site,
+        table,
+        cause: wrong,
+    };
+    refused_at(alloc, status, named.name.as_str(), column.as_str())
+}
+
+// The name of the column that a cause speaks of.
+fn wrong_column(alloc: Global, table: &Table, wrong: RowsErr) -> Result<String, Memory>
+    ensures { IfOk result (λ name. string_bytes name ≡ wrong_column table.now wrong) }
+{
+    match wrong {
+        RowsErr::TooMany => Ok(String::new(alloc)),
+        RowsErr::PerValue(column) => column_name(alloc, table, column),
+        RowsErr::WrongType { column, .. } => column_name(alloc, table, column),
+    }
+}
