@@ -5,10 +5,14 @@ mod KeepLaws
 mod WidthLaws
 mod Chosen
 mod Stepping
+mod Stepped
 mod Looking
 mod BlockLaws
 mod SourceLaws
 mod OneBlock
+mod Mentions
+mod Entries
+mod Ordered
 mod Central
 mod Written
 mod UnionLaws
