@@ -18,7 +18,7 @@ use Rattle.pdn_plan.specs.declared.steps.Step.{Step}
 use Rattle.pdn_plan.specs.declared.steps.Step.TheVariants.{Grouped, Counted, Numbered, Unchanged}
 use Rattle.pdn_plan.specs.Planning.{scope_of, bounds, named, kept, chosen_node, block_node, block_relation, filtered, sources_node, what_kind, bound_with, main_relation, root}
 use Rattle.pdn_plan.specs.Binding.{sources_refusal, items_refusal, is_loose, loose_refusal, is_grouped, is_counted, joins_below, is_wide, after_sources, block_refusal, with_refusal, main_refusal, blocks_refusal, refusal}
-use Rattle.pdn_plan.specs.Answer.{Title, Known, NamedRows, Standing, standing, all_titles, title_place, ons_true, all_true, chosen_rows, by_group, shown_rows, once_if, block_rows, item_name, ordered_by, block_means, with_means, answer, TablesFit, StartsPlain, IsWritten}
+use Rattle.pdn_plan.specs.Answer.{Title, Known, NamedRows, Standing, standing, all_titles, title_place, ons_true, all_true, chosen_rows, entries, shown_rows, once_if, block_rows, item_name, ordered_by, block_means, with_means, answer, TablesFit, StartsPlain, IsWritten}
 use Rattle.pdn_plan.specs.Answer as answers
 use Rattle.pdn_plan.proofs.Blocks as plans
 use Rattle.pdn_tree.proofs.ColumnLaws.{meets-append}
@@ -163,9 +163,9 @@ block-is schema tables es ks b fit all plain e =
     let by_step : mean tables (block_node scope bs b) ≡ once_if b.distinct (stepped (place scope) (length scope) b.items (step_of (place scope) b) (chosen_rows ss b.filter)) = rows-are schema tables es ks b plain stand ok in
     let rows : mean tables (block_node scope bs b) ≡ block_rows ss b = by_step
     ∙ sym (ap (once_if b.distinct) (block-shows scope (length scope) b (chosen_rows ss b.filter) (items-within scope b.items ok.shows) (beside scope bs b ok)))
-    ∙ sym (ap₂ (λ (at : Col → ℕ) (n : ℕ). once_if b.distinct (shown_rows at b.items (by_group at n b.items b.group b.having (chosen_rows ss b.filter)))) place_is long) in
+    ∙ sym (ap₂ (λ (at : Col → ℕ) (n : ℕ). once_if b.distinct (shown_rows at b.items (entries at n b.items b.group b.having (chosen_rows ss b.filter)))) place_is long) in
     record {
-      names = map-map (λ g. g.name) (λ i. record { name = output_name i; kind = what_kind scope i.what }) b.items ∙ names-are b.items;
+      names = ◌∙◌ {b = map output_name b.items} (map-map (λ g. g.name) (λ i. record { name = output_name i; kind = what_kind scope i.what }) b.items) (names-are b.items);
       rows = rows;
       wide = subst (λ (n : ℕ). Wide n (mean tables (block_node scope bs b))) (sym (length-map b.items _))
           (subst (λ (xs : Rows). Wide (length b.items) xs) (sym by_step) (once-wide (length b.items) b.distinct _ (stepped-wide (place scope) (length scope) b.items (step_of (place scope) b) (chosen_rows ss b.filter))));

@@ -28,7 +28,7 @@ use Rattle.pdn_plan.specs.Steps.{firsts, is_count, counts, key_at, window_key, n
 use Rattle.pdn_plan.specs.declared.steps.Step.{Step}
 use Rattle.pdn_plan.specs.declared.steps.Step.TheVariants.{Numbered, Unchanged}
 use Rattle.pdn_plan.specs.Binding.{is_loose, is_some_of}
-use Rattle.pdn_plan.specs.Answer.{Entry, agree, grouped, Window, window_cmp, stands_before, place_of, numbered, cols_in, named_places, shows_count, window_or, window_in, by_window, by_count, by_group, shown, shown_rows}
+use Rattle.pdn_plan.specs.Answer.{Entry, agree, grouped, Window, window_cmp, stands_before, place_of, numbered, cols_in, named_places, shows_count, window_or, window_in, windowed, ungrouped, entries, shown, shown_rows}
 use Rattle.pdn_plan.proofs.Pushing.{filter-map, filter-agree, map-agree, map-map}
 use Rattle.pdn_plan.proofs.KeepLaws.{has_needed}
 use Rattle.pdn_plan.proofs.KindLaws.{kept-below}
@@ -87,11 +87,11 @@ item-cell columns place e what.Count h = number-cell columns e
 item-cell columns place e (what.Number partition order) h = number-cell columns e
 
 -- the items of entries are those of the rows cut to columns that they show, each with its number
-entries-show : (columns : List ℕ) (place : Col → ℕ) (items : List Item) (entries : List Entry) → AllByRecursion (λ i. Showing columns place i.what) items
-    → shown_rows place items entries ≡ project_rows (items_at (λ c. place_in columns (place c)) (length columns) items) (map (with_number columns) entries)
-entries-show columns place items entries h =
-    map-agree _ _ (λ e. items-show place (λ c. place_in columns (place c)) (length columns) e (with_number columns e) items (all-items (Showing columns place) _ (item-cell columns place e) items h)) entries
-    ∙ sym (map-map (cut (items_at (λ c. place_in columns (place c)) (length columns) items)) (with_number columns) entries)
+entries-show : (columns : List ℕ) (place : Col → ℕ) (items : List Item) (es : List Entry) → AllByRecursion (λ i. Showing columns place i.what) items
+    → shown_rows place items es ≡ project_rows (items_at (λ c. place_in columns (place c)) (length columns) items) (map (with_number columns) es)
+entries-show columns place items es h =
+    map-agree _ _ (λ e. items-show place (λ c. place_in columns (place c)) (length columns) e (with_number columns e) items (all-items (Showing columns place) _ (item-cell columns place e) items h)) es
+    ∙ sym (map-map (cut (items_at (λ c. place_in columns (place c)) (length columns) items)) (with_number columns) es)
 
 -- ---- GROUP BY
 
@@ -143,9 +143,9 @@ numbers-are named place w all earlier (x ∷ rest) h =
     let parts : List ℕ = map (place_in named) (map place w.partition) in
     let keys : List Key = map (key_at (place_in named)) (map (window_key place) w.order) in
     let came : count_by (λ y. agree place w.partition x y && stands_before place w.order named y x) all ≡ count_by (before_in parts keys (cut named x)) (map (cut named) all) =
-        sym (count-map (before_in parts keys (cut named x)) (cut named) all ∙ count-agree _ _ (λ y. before-is named place w x y h) all) in
+    sym (count-map (before_in parts keys (cut named x)) (cut named) all ∙ count-agree _ _ (λ y. before-is named place w x y h) all) in
     let like : count_by (λ y. same_row (cut named x) (cut named y)) earlier ≡ times same_row (cut named x) (map (cut named) earlier) =
-        sym (count-map (same_row (cut named x)) (cut named) earlier) in
+    sym (count-map (same_row (cut named x)) (cut named) earlier) in
     ap₂ (λ (row : List Value) (rows : Rows). row ∷ rows)
     (ap₂ (λ (m n : ℕ). cut named x ++ value.Int (1 + (m + n)) ∷ []) came like)
     (numbers-are named place w all (earlier ++ x ∷ []) rest h
@@ -184,15 +184,15 @@ counts-are (i ∷ is) = ap₂ (λ a b. a || b) (one i.what) (counts-are is)
     one what.Count = refl
     one (what.Number partition order) = refl
 
-abbrev windowed : (Col → ℕ) → Option Window → Step
-windowed place None = Unchanged
-windowed place (Some w) = Numbered (map place w.partition) (map (window_key place) w.order)
+abbrev step_by : (Col → ℕ) → Option Window → Step
+step_by place None = Unchanged
+step_by place (Some w) = Numbered (map place w.partition) (map (window_key place) w.order)
 
-window-is : (place : Col → ℕ) (items : List Item) → window_step place items ≡ windowed place (window_in items)
+window-is : (place : Col → ℕ) (items : List Item) → window_step place items ≡ step_by place (window_in items)
 window-is place [] = refl
 window-is place (i ∷ is) = one i.what (window-is place is)
   where
-    one : (w : What) → window_step place is ≡ windowed place (window_in is) → number_or place w (window_step place is) ≡ windowed place (window_or w (window_in is))
+    one : (w : What) → window_step place is ≡ step_by place (window_in is) → number_or place w (window_step place is) ≡ step_by place (window_or w (window_in is))
     one (what.Column col) e = e
     one what.Count e = e
     one (what.Number partition order) e = refl
@@ -241,9 +241,9 @@ named-there place width items within =
     all-weaker _ _ (λ c f. has_needed (has cs) c 0 width f.0 (omega arith) (omega (arith, f.1))) cs (all-both (Has cs) (λ c. c < width) cs (all-has cs) within)
 
 window-shows : (place : Col → ℕ) (width : ℕ) (items : List Item) (rows : Rows) (o : Option Window) → window_in items ≡ o → counts items ≡ false → AllByRecursion (λ c. c < width) (items_columns place items)
-    → shown_rows place items (by_window place width items o rows) ≡ stepped place width items (windowed place o) rows
+    → shown_rows place items (windowed place width items o rows) ≡ stepped place width items (step_by place o) rows
 window-shows place width items rows None e alone within =
-    let plain : AllColumns (λ c. place c ≡ place c) items = columns-alone place (λ c. c ≡ c) items (window-is place items ∙ ap (windowed place) e) alone (all-same (items_columns place items)) in
+    let plain : AllColumns (λ c. place c ≡ place c) items = columns-alone place (λ c. c ≡ c) items (window-is place items ∙ ap (step_by place) e) alone (all-same (items_columns place items)) in
     map-map (λ e. map (λ i. shown place e i.what) items) (λ row. record { row = row; number = 0 }) rows
     ∙ map-agree _ _ (λ row. items-show place place 0 (record { row = row; number = 0 }) row items (all-items (IsColumn (λ c. place c ≡ place c)) _ (plain-cell place row) items plain)) rows
 window-shows place width items rows (Some w) e alone within =
@@ -261,7 +261,7 @@ loose-shows scope group keys h (what.Number partition order) e = tt
 
 count-shows : (scope : List Seen) (width : ℕ) (items : List Item) (rows : Rows) (b : Bool) → counts items ≡ b → AllByRecursion (λ c. c < width) (items_columns (place scope) items)
     → (b ≡ true → AllByRecursion (λ i. is_loose scope [] i.what ≡ false) items)
-    → shown_rows (place scope) items (by_count (place scope) width items b rows) ≡ stepped (place scope) width items (count_or b (window_step (place scope) items)) rows
+    → shown_rows (place scope) items (ungrouped (place scope) width items b rows) ≡ stepped (place scope) width items (count_or b (window_step (place scope) items)) rows
 count-shows scope width items rows true e within alone =
     entries-show [] (place scope) items (record { row = []; number = length rows } ∷ []) (all-items (λ w. is_loose scope [] w ≡ false) (Showing [] (place scope)) (loose-shows scope [] [] (λ c h. h)) items (alone refl))
 count-shows scope width items rows false e within alone =
@@ -270,10 +270,10 @@ count-shows scope width items rows false e within alone =
 
 group-shows : (scope : List Seen) (width : ℕ) (items : List Item) (group : List Col) (having : Option ℕ) (rows : Rows) → AllByRecursion (λ c. c < width) (items_columns (place scope) items)
     → ((is_some_of group || counts items) ≡ true → AllByRecursion (λ i. is_loose scope group i.what ≡ false) items)
-    → shown_rows (place scope) items (by_group (place scope) width items group having rows)
+    → shown_rows (place scope) items (entries (place scope) width items group having rows)
     ≡ stepped (place scope) width items (group_or (map (place scope) group) having (count_or (counts items) (window_step (place scope) items))) rows
 group-shows scope width items [] having rows within alone =
-    ap (λ (b : Bool). shown_rows (place scope) items (by_count (place scope) width items b rows)) (counts-are items)
+    ap (λ (b : Bool). shown_rows (place scope) items (ungrouped (place scope) width items b rows)) (counts-are items)
     ∙ count-shows scope width items rows (counts items) refl within alone
 group-shows scope width items (col ∷ cols) having rows within alone =
     let keys : List ℕ = firsts (λ c. c) [] (map (place scope) (col ∷ cols)) in
@@ -284,5 +284,5 @@ group-shows scope width items (col ∷ cols) having rows within alone =
 -- What a block shows of the rows chosen, by its own definition and by its step, where what stands beside a count may stand there.
 pub block-shows : (scope : List Seen) (width : ℕ) (b : Block) (rows : Rows) → AllByRecursion (λ c. c < width) (items_columns (place scope) b.items)
     → ((is_some_of b.group || counts b.items) ≡ true → AllByRecursion (λ i. is_loose scope b.group i.what ≡ false) b.items)
-    → shown_rows (place scope) b.items (by_group (place scope) width b.items b.group b.having rows) ≡ stepped (place scope) width b.items (step_of (place scope) b) rows
+    → shown_rows (place scope) b.items (entries (place scope) width b.items b.group b.having rows) ≡ stepped (place scope) width b.items (step_of (place scope) b) rows
 block-shows scope width b rows within alone = group-shows scope width b.items b.group b.having rows within alone

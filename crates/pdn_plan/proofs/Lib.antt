@@ -14,6 +14,7 @@ mod Mentions
 mod Entries
 mod Ordered
 mod Central
+mod WorkedAnswers
 mod Written
 mod UnionLaws
 mod SizeLaws

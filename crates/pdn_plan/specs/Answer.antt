@@ -130,7 +130,7 @@ chosen_rows ss asked = filter (λ row. ons_true [] row ss && all_true (all_title
 
 -- ---- what a block makes of the rows chosen
 
--- what an item or a row of the answer reads: a row, and the number that a COUNT or a ROW_NUMBER shows beside it
+-- what the items of a block are read off: a row, and the number that a COUNT or a ROW_NUMBER shows beside it
 pub record Entry : Type 0 where
   pub row : List Value
   pub number : ℕ
@@ -195,18 +195,20 @@ abbrev pub window_in : List Item → Option Window
 window_in [] = None
 window_in (i ∷ is) = window_or i.what (window_in is)
 
--- without GROUP BY and COUNT: a ROW_NUMBER, or the rows as they are
-abbrev pub by_window : (Col → ℕ) → ℕ → List Item → Option Window → Rows → List Entry
-by_window at width items None rows = map (λ row. record { row = row; number = 0 }) rows
-by_window at width items (Some w) rows = numbered at w (named_places at width items) rows [] rows
+-- without GROUP BY and COUNT(*): the rows, each with its place where an item is a ROW_NUMBER
+abbrev pub windowed : (Col → ℕ) → ℕ → List Item → Option Window → Rows → List Entry
+windowed at width items None rows = map (λ row. record { row = row; number = 0 }) rows
+windowed at width items (Some w) rows = numbered at w (named_places at width items) rows [] rows
 
-abbrev pub by_count : (Col → ℕ) → ℕ → List Item → Bool → Rows → List Entry
-by_count at width items true rows = counted rows
-by_count at width items false rows = by_window at width items (window_in items) rows
+-- without GROUP BY: where an item is COUNT(*), all rows are counted
+abbrev pub ungrouped : (Col → ℕ) → ℕ → List Item → Bool → Rows → List Entry
+ungrouped at width items true rows = counted rows
+ungrouped at width items false rows = windowed at width items (window_in items) rows
 
-abbrev pub by_group : (Col → ℕ) → ℕ → List Item → List Col → Option ℕ → Rows → List Entry
-by_group at width items [] having rows = by_count at width items (list_any (λ i. shows_count i.what) items) rows
-by_group at width items (col ∷ cols) having rows = grouped (agree at (col ∷ cols)) having rows
+-- the entries of a block, from its items, its GROUP BY and HAVING and the rows chosen
+abbrev pub entries : (Col → ℕ) → ℕ → List Item → List Col → Option ℕ → Rows → List Entry
+entries at width items [] having rows = ungrouped at width items (list_any (λ i. shows_count i.what) items) rows
+entries at width items (col ∷ cols) having rows = grouped (agree at (col ∷ cols)) having rows
 
 -- what an item shows of an entry
 abbrev pub shown : (Col → ℕ) → Entry → What → Value
@@ -216,7 +218,7 @@ shown at e (what.Number partition order) = value.Int e.number
 
 -- the items of each entry, from left to right
 abbrev pub shown_rows : (Col → ℕ) → List Item → List Entry → Rows
-shown_rows at items entries = map (λ e. map (λ i. shown at e i.what) items) entries
+shown_rows at items es = map (λ e. map (λ i. shown at e i.what) items) es
 
 abbrev pub once_if : Bool → Rows → Rows
 once_if true rows = distinct_rows rows
@@ -225,7 +227,7 @@ once_if false rows = rows
 abbrev pub block_rows : List Standing → Block → Rows
 block_rows ss b =
     let at : Col → ℕ = title_place (all_titles ss) in
-    once_if b.distinct (shown_rows at b.items (by_group at (length (all_titles ss)) b.items b.group b.having (chosen_rows ss b.filter)))
+    once_if b.distinct (shown_rows at b.items (entries at (length (all_titles ss)) b.items b.group b.having (chosen_rows ss b.filter)))
 
 -- the name of an item's column: its alias, else that of what it shows
 abbrev pub item_name : Option Name → What → List ℕ
