@@ -26,6 +26,7 @@ use Rattle.pdn_plan.proofs.Pushing.{map-map}
 use Rattle.pdn_plan.proofs.Stepping.{AllColumns, IsColumn, shows-columns}
 use Rattle.pdn_plan.proofs.Looking.{or_none, cols-within, items-within}
 use Rattle.pdn_plan.proofs.OneBlock.{all-parts, keys-known, not-grouped, or_right, not-both}
+use Rattle.pdn_plan.proofs.Mentions.{has-firsts, not-loose}
 use Rattle.pdn_plan.proofs.Central.{Passed, passed, named-in, in-kept}
 use Rattle.pdn_tree.proofs.ShapeLaws.{Gives, gives-Group, gives-Count, gives-Number}
 use Rattle.pdn_plan.proofs.KindLaws.{kinds_of, kind-left, kind-right, all-within, kept-below, kept-kind, kept-kinds, kept-within}
@@ -127,43 +128,6 @@ items-below place columns new (i ∷ is) h = (what-below place columns new i.wha
 
 -- ---- what the block's step is
 
--- each that is mentioned is there at its first mention
-or_same : (a b f : Bool) → ((a || (b || false)) || f) ≡ (a || (b || f))
-or_same true b f = refl
-or_same false true f = refl
-or_same false false f = refl
-
-has-append : (xs ys : List ℕ) (c : ℕ) → has (xs ++ ys) c ≡ (has xs c || has ys c)
-has-append [] ys c = refl
-has-append (x ∷ xs) ys c = ap (λ b. (x == c) || b) (has-append xs ys c) ∙ or_more (x == c) (has xs c) (has ys c)
-  where
-    or_more : (a b d : Bool) → (a || (b || d)) ≡ ((a || b) || d)
-    or_more true b d = refl
-    or_more false b d = refl
-
-has-push : (before : List ℕ) (x c : ℕ) (f : Bool) → (has (before ++ x ∷ []) c || f) ≡ (has before c || ((x == c) || f))
-has-push before x c f = ap (λ b. b || f) (has-append before (x ∷ []) c) ∙ or_same (has before c) (x == c) f
-
-has-before : (before : List ℕ) (x c : ℕ) (more : Bool) → has before x ≡ true → (has before c || ((x == c) || more)) ≡ true → (has before c || more) ≡ true
-has-before before x c more e h = one (x == c) refl h
-  where
-    one : (b : Bool) → (x == c) ≡ b → (has before c || (b || more)) ≡ true → (has before c || more) ≡ true
-    one true f k = ap (λ b. b || more) (ap (has before) (sym (eqb-true x c f)) ∙ e)
-    one false f k = k
-
-has-firsts : (before xs : List ℕ) (c : ℕ) → (has before c || has xs c) ≡ true → (has before c || has (firsts (λ x. x) before xs) c) ≡ true
-has-firsts before [] c h = h
-has-firsts before (x ∷ xs) c h =
-    one (has before x) refl
-    (λ k. has-firsts before xs c k)
-    (sym (has-push before x c (has (firsts (λ x. x) (before ++ x ∷ []) xs) c)) ∙ has-firsts (before ++ x ∷ []) xs c (has-push before x c (has xs c) ∙ h))
-  where
-    one : (b : Bool) → has before x ≡ b → ((has before c || has xs c) ≡ true → (has before c || has (firsts (λ x. x) before xs) c) ≡ true)
-        → (has before c || ((x == c) || has (firsts (λ x. x) (before ++ x ∷ []) xs) c)) ≡ true
-        → (has before c || has (cond b (firsts (λ x. x) before xs) (x ∷ firsts (λ x. x) (before ++ x ∷ []) xs)) c) ≡ true
-    one true e there first = there (has-before before x c (has xs c) e h)
-    one false e there first = first
-
 -- where a block groups
 grouped-by : (place : Col → ℕ) (group : List Col) (having : Option ℕ) (next : Step) (keys : List ℕ) (least : Option ℕ) → ((js : List ℕ) (l : Option ℕ) → next ≡ Grouped js l → ⊥)
     → group_or (map place group) having next ≡ Grouped keys least → (firsts (λ c. c) [] (map place group) ≡ keys) × (is_some_of group ≡ true)
@@ -226,12 +190,6 @@ columns-shown place Q (i ∷ is) h =
     one (what.Column col) k = k.0
     one what.Count k = tt
     one (what.Number partition order) k = tt
-
-not-loose : (scope : List Seen) (group : List Col) (items : List Item) → first_of (λ i. refuse_if (is_loose scope group i.what) 6 (output_name i)) items ≡ None → AllByRecursion (λ i. is_loose scope group i.what ≡ false) items
-not-loose scope group [] e = tt
-not-loose scope group (i ∷ is) e =
-    let two = or_none (refuse_if (is_loose scope group i.what) 6 (output_name i)) (first_of (λ i. refuse_if (is_loose scope group i.what) 6 (output_name i)) is) e in
-    (no-cause (is_loose scope group i.what) 6 (output_name i) two.0, not-loose scope group is two.1)
 
 -- ---- the items that each step can show
 

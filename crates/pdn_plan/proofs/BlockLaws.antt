@@ -4,6 +4,7 @@ use Rattle.std.specs.Str.{bytes_eq}
 use Rattle.std.proofs.lemmas.List.{length-map}
 use Rattle.pdn_schema.specs.declared.schema.Column.{Column}
 use Rattle.pdn_schema.specs.Models.{TableModel, SchemaModel}
+use Rattle.pdn_sql.specs.declared.query.Name.{Name}
 use Rattle.pdn_sql.specs.declared.query.Source.{Source}
 use Rattle.pdn_tree.specs.declared.node.Node.TheVariants as node
 use Rattle.pdn_tree.specs.Meaning.{Rows, mean}
@@ -11,7 +12,7 @@ use Rattle.pdn_tree.specs.Columns.{Wide}
 use Rattle.pdn_plan.specs.Names.{refuse_if}
 use Rattle.pdn_plan.specs.Steps.{alias_or}
 use Rattle.pdn_plan.specs.Planning.{table_from, given_column, earlier_or, relation, columns_of, plan_of, source_name, seen_as, seen_by}
-use Rattle.pdn_plan.specs.Answer.{NamedRows, Known, table_rows, known_or, stands_for, titled, standing, TablesFit}
+use Rattle.pdn_plan.specs.Answer.{NamedRows, Known, table_rows, known_or, stands_for, titled, known_as, standing, TablesFit}
 use Rattle.pdn_plan.proofs.Pushing.{map-map}
 use Rattle.pdn_tree.proofs.NodeLaws.{mean-Scan}
 use Rattle.pdn_plan.proofs.Looking.{title_of}
@@ -86,6 +87,10 @@ pub record Stands (schema : SchemaModel) (tables : ℕ → Rows) (es : List Earl
 titles-same : (alias : List ℕ) (columns : List Given) (names : List (List ℕ)) → map (λ g. g.name) columns ≡ names → titled alias names ≡ map title_of (seen_as alias columns)
 titles-same alias columns names e = ap (titled alias) (sym e) ∙ map-map _ _ columns ∙ sym (map-map title_of _ columns)
 
+known-as : (alias : Option Name) (name : Name) → known_as alias name ≡ alias_or alias name.text
+known-as None name = refl
+known-as (Some alias) name = refl
+
 pub stands : (schema : SchemaModel) (tables : ℕ → Rows) (es : List Earlier) (ks : List Known) (s : Source) → TablesFit tables 0 schema.tables → AllMatch tables es ks
     → refuse_if (is_none (relation schema es s.name.text)) 1 s.name.text ≡ None → Stands schema tables es ks s
 stands schema tables es ks s fit all h = one (relation schema es s.name.text) refl h
@@ -96,7 +101,7 @@ stands schema tables es ks s fit all h = one (relation schema es s.name.text) re
     one : (o : Option Relation) → relation schema es s.name.text ≡ o → refuse_if (is_none o) 1 s.name.text ≡ None → Stands schema tables es ks s
     one None e k = absurd cc
     one (Some r) e k = record {
-      titles = titles-same (alias_or s.alias s.name.text) r.columns _ (found r e).names ∙ ap (λ o. map title_of (seen_as (source_name s) (columns_of o))) (sym e);
+      titles = ap (λ alias. titled alias (stands_for schema tables ks s.name.text).columns) (known-as s.alias s.name) ∙ titles-same (alias_or s.alias s.name.text) r.columns _ (found r e).names ∙ ap (λ o. map title_of (seen_as (source_name s) (columns_of o))) (sym e);
       rows = ap (λ o. mean tables (plan_of o)) e ∙ (found r e).rows;
       wide = subst (λ (o : Option Relation). Wide (length (seen_as (source_name s) (columns_of o))) (mean tables (plan_of o))) (sym e)
           (subst (λ (n : ℕ). Wide n (mean tables r.plan)) (sym (length-map r.columns _)) (found r e).wide);

@@ -1,5 +1,5 @@
 -- The plan of a query that is not refused means the query's answer.
-use Rattle.std.proofs.Common.{◌≡◌, ℕ, ◌+◌, ◌<◌, Bool, false, not, ◌&&◌, List, [], ◌∷◌, ◌++◌, map, filter, length, sym, refl, ap, ap₂, ◌∙◌, subst, Option, None, arith, append_assoc}
+use Rattle.std.proofs.Common.{◌≡◌, ℕ, ◌+◌, ◌<◌, Bool, true, false, not, ◌&&◌, List, [], ◌∷◌, ◌++◌, map, filter, length, sym, refl, ap, ap₂, ◌∙◌, subst, Option, None, arith, append_assoc}
 use Rattle.std.proofs.Math.Path.{fun_ext}
 use Rattle.std.specs.List.{AllByRecursion, range_with_len}
 use Rattle.std.proofs.lemmas.List.{length-map}
@@ -17,8 +17,8 @@ use Rattle.pdn_plan.specs.Steps.{step_of, items_columns, output_name, order_keys
 use Rattle.pdn_plan.specs.declared.steps.Step.{Step}
 use Rattle.pdn_plan.specs.declared.steps.Step.TheVariants.{Grouped, Counted, Numbered, Unchanged}
 use Rattle.pdn_plan.specs.Planning.{scope_of, bounds, named, kept, chosen_node, block_node, block_relation, filtered, sources_node, what_kind, bound_with, main_relation, root}
-use Rattle.pdn_plan.specs.Binding.{sources_refusal, items_refusal, loose_refusal, is_grouped, is_counted, joins_below, is_wide, after_sources, block_refusal, with_refusal, main_refusal, blocks_refusal, refusal}
-use Rattle.pdn_plan.specs.Answer.{Title, Known, NamedRows, Standing, standing, all_titles, title_place, ons_true, all_true, chosen_rows, numbered_columns, stepped, once_if, block_rows, block_means, with_means, answer, TablesFit, StartsPlain, IsWritten}
+use Rattle.pdn_plan.specs.Binding.{sources_refusal, items_refusal, is_loose, loose_refusal, is_grouped, is_counted, joins_below, is_wide, after_sources, block_refusal, with_refusal, main_refusal, blocks_refusal, refusal}
+use Rattle.pdn_plan.specs.Answer.{Title, Known, NamedRows, Standing, standing, all_titles, title_place, ons_true, all_true, chosen_rows, entries, shown_rows, once_if, block_rows, item_name, ordered_by, block_means, with_means, answer, TablesFit, StartsPlain, IsWritten}
 use Rattle.pdn_plan.specs.Answer as answers
 use Rattle.pdn_plan.proofs.Blocks as plans
 use Rattle.pdn_tree.proofs.ColumnLaws.{meets-append}
@@ -30,6 +30,10 @@ use Rattle.pdn_plan.proofs.Stepping.{distinct-means, shows-columns}
 use Rattle.pdn_plan.proofs.Looking.{or_none, title_of, title-place, placed-true, cond-within, cols-within, items-within}
 use Rattle.pdn_plan.proofs.BlockLaws.{AllMatch, Matches}
 use Rattle.pdn_plan.proofs.SourceLaws.{AllStand, all-stand, titles-are, ons-are, product-is, width-is, names-from, names-both, all-sound, first-plain}
+use Rattle.pdn_plan.proofs.Stepped.{stepped}
+use Rattle.pdn_plan.proofs.Mentions.{not-loose}
+use Rattle.pdn_plan.proofs.Entries.{block-shows}
+use Rattle.pdn_plan.proofs.Ordered.{names-are, top-is}
 use Rattle.pdn_plan.proofs.OneBlock.{all-has, all-parts, all-both, all-weaker, StepFits, items-mean, stepped-wide, once-wide, keys-known, not-grouped, Numbers, numbers-known, or_right, not-both, one-source, names-filter}
 use Rattle.pdn_plan.specs.declared.scope.Bound.{Bound}
 use Rattle.pdn_plan.specs.declared.scope.Refusal.{Refusal}
@@ -138,6 +142,10 @@ rows-are schema tables es ks b plain stand ok =
     distinct-means tables b.distinct _
     ∙ ap (once_if b.distinct) (items-mean tables (kept scope bs b) (place scope) (length scope) b.items (chosen_node scope bs b) _ (step_of (place scope) b) (chosen-is schema tables es ks b plain stand ok) (step-fits schema es b plain ok (step_of (place scope) b) refl))
 
+-- what stands beside a count may stand there
+beside : (scope : List Seen) (bs : List Bound) (b : Block) → Passed scope bs b → is_grouped b ≡ true → AllByRecursion (λ i. is_loose scope b.group i.what ≡ false) b.items
+beside scope bs b ok e = not-loose scope b.group b.items (ap (λ x. loose_refusal x scope b) (sym e) ∙ ok.alone)
+
 -- a block that is not refused
 pub block-is : (schema : SchemaModel) (tables : ℕ → Rows) (es : List Earlier) (ks : List Known) (b : Block) → TablesFit tables 0 schema.tables → AllMatch tables es ks → StartsPlain b.sources
     → block_refusal schema es b ≡ None → Matches tables (block_relation schema es b) (block_means schema tables ks b)
@@ -151,13 +159,16 @@ block-is schema tables es ks b fit all plain e =
     let titles : all_titles ss ≡ map title_of scope = titles-are schema tables es ks [] b.sources stand in
     let place_is : title_place (all_titles ss) ≡ place scope = fun_ext (λ col. ap (λ ts. title_place ts col) titles ∙ title-place scope col) in
     let long : length (all_titles ss) ≡ length scope = ap length titles ∙ length-map scope title_of in
-    let rows : mean tables (block_node scope bs b) ≡ block_rows ss b = rows-are schema tables es ks b plain stand (passed scope bs b two.1)
-    ∙ sym (ap₂ (λ (p : Col → ℕ) (n : ℕ). once_if b.distinct (stepped p n b.items (step_of p b) (chosen_rows ss b.filter))) place_is long) in
+    let ok : Passed scope bs b = passed scope bs b two.1 in
+    let by_step : mean tables (block_node scope bs b) ≡ once_if b.distinct (stepped (place scope) (length scope) b.items (step_of (place scope) b) (chosen_rows ss b.filter)) = rows-are schema tables es ks b plain stand ok in
+    let rows : mean tables (block_node scope bs b) ≡ block_rows ss b = by_step
+    ∙ sym (ap (once_if b.distinct) (block-shows scope (length scope) b (chosen_rows ss b.filter) (items-within scope b.items ok.shows) (beside scope bs b ok)))
+    ∙ sym (ap₂ (λ (at : Col → ℕ) (n : ℕ). once_if b.distinct (shown_rows at b.items (entries at n b.items b.group b.having (chosen_rows ss b.filter)))) place_is long) in
     record {
-      names = map-map (λ g. g.name) (λ i. record { name = output_name i; kind = what_kind scope i.what }) b.items;
+      names = ◌∙◌ {b = map output_name b.items} (map-map (λ g. g.name) (λ i. record { name = output_name i; kind = what_kind scope i.what }) b.items) (names-are b.items);
       rows = rows;
       wide = subst (λ (n : ℕ). Wide n (mean tables (block_node scope bs b))) (sym (length-map b.items _))
-          (subst (λ (xs : Rows). Wide (length b.items) xs) (sym rows) (once-wide (length b.items) b.distinct _ (stepped-wide (title_place (all_titles ss)) (length (all_titles ss)) b.items (step_of (title_place (all_titles ss)) b) (chosen_rows ss b.filter))));
+          (subst (λ (xs : Rows). Wide (length b.items) xs) (sym by_step) (once-wide (length b.items) b.distinct _ (stepped-wide (place scope) (length scope) b.items (step_of (place scope) b) (chosen_rows ss b.filter))));
     }
 
 -- ---- the blocks of a query
@@ -195,3 +206,5 @@ central schema tables q fit written e =
     let main : Matches tables (main_relation schema q) (block_means schema tables ks q.main) = block-is schema tables es ks q.main fit begins.all written.1 (or_none (block_refusal schema es q.main) _ begins.passes).0 in
     mean-Top tables (main_relation schema q).plan (order_keys (map output_name q.main.items) q.main.order) q.main.limit
     ∙ ap (top_rows (order_keys (map output_name q.main.items) q.main.order) q.main.limit) main.rows
+    ∙ top-is (map output_name q.main.items) q.main.order q.main.limit (block_means schema tables ks q.main).rows
+    ∙ ap (λ (outputs : List (List ℕ)). top_rows (ordered_by outputs q.main.order) q.main.limit (block_means schema tables ks q.main).rows) (names-are q.main.items)

@@ -5,11 +5,16 @@ mod KeepLaws
 mod WidthLaws
 mod Chosen
 mod Stepping
+mod Stepped
 mod Looking
 mod BlockLaws
 mod SourceLaws
 mod OneBlock
+mod Mentions
+mod Entries
+mod Ordered
 mod Central
+mod WorkedAnswers
 mod Written
 mod UnionLaws
 mod SizeLaws

@@ -25,7 +25,8 @@ use Rattle.pdn_plan.specs.declared.steps.Step.{Step}
 use Rattle.pdn_plan.specs.declared.steps.Step.TheVariants.{Grouped, Counted, Numbered, Unchanged}
 use Rattle.pdn_plan.specs.Planning.{seen_by, scope_of, bounds, kept, step_node, step_columns, step_width, cut_to}
 use Rattle.pdn_plan.specs.Binding.{joins_below}
-use Rattle.pdn_plan.specs.Answer.{numbered_columns, stepped, once_if, StartsPlain}
+use Rattle.pdn_plan.specs.Answer.{once_if, StartsPlain}
+use Rattle.pdn_plan.proofs.Stepped.{numbered_columns, stepped}
 use Rattle.pdn_tree.proofs.ColumnLaws.{names-weaker}
 use Rattle.pdn_tree.proofs.NodeLaws.{mean-Group, mean-Count, mean-Number}
 use Rattle.pdn_plan.proofs.WidthLaws.{wide-project, wide-group, wide-number, wide-distinct}

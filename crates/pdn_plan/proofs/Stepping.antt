@@ -72,7 +72,7 @@ distinct-means tables true n = mean-Distinct tables n
 distinct-means tables false n = refl
 
 -- a block that neither groups, counts nor numbers shows columns alone
-columns-alone : (place : Col → ℕ) (Q : ℕ → Type 0) (items : List Item) → window_step place items ≡ Unchanged → counts items ≡ false
+pub columns-alone : (place : Col → ℕ) (Q : ℕ → Type 0) (items : List Item) → window_step place items ≡ Unchanged → counts items ≡ false
     → AllByRecursion Q (items_columns place items) → AllColumns (λ c. Q (place c)) items
 columns-alone place Q [] w c h = tt
 columns-alone place Q (i ∷ is) w c h = one i.what w c h (columns-alone place Q is)

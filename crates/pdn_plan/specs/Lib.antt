@@ -4,4 +4,5 @@ pub mod Steps
 pub mod Planning
 pub mod Binding
 pub mod Answer
+pub mod Worked
 pub mod Keeping
