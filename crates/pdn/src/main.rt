@@ -60,7 +60,7 @@ fn main(rt: HostRuntime) -> ExitCode {
             return ExitCode::FAILURE;
         }
     }
-    let status = pdn(alloc, &words, &mut world, &deal);
+    let status = pdn(&rt, alloc, &words, &mut world, &deal);
     ExitCode::from(status.code())
 }
 

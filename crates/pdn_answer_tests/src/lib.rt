@@ -1,4 +1,4 @@
-//! Units of queries, what each site enters into them, and a unit's run. Nothing but tests of public calls.
+//! Units of queries, what each site enters into them, a unit's run, and an answer by several workers. Nothing but tests of public calls.
 #![tactic(auto)]
 
 #[cfg(test)]
@@ -9,3 +9,5 @@ mod engines;
 mod plans;
 #[cfg(test)]
 mod units;
+#[cfg(test)]
+mod workers;

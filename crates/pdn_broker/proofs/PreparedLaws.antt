@@ -1,10 +1,12 @@
 -- The units of a query that is prepared, their runs, and what the root opens.
-use Rattle.std.proofs.Common.{◌≡◌, ℕ, zero, suc, ◌+◌, ◌-◌, ◌<◌, ◌≤◌, Bool, true, false, cond, List, [], ◌∷◌, ◌++◌, length, get_or, map, take, filter, true≢false, refl, sym, ap, ap₂, ◌∙◌, subst, arith, length-append, append_assoc, append-nil, Option, Some, None}
+use Rattle.std.proofs.Common.{◌≡◌, ℕ, zero, suc, ◌+◌, ◌-◌, ◌<◌, ◌≤◌, Bool, true, false, cond, List, [], ◌∷◌, ◌++◌, length, get_or, map, take, filter, true≢false, refl, sym, ap, ap₂, ◌∙◌, subst, arith, length-append, append_assoc, append-nil, Some, Result, Ok, Err, IfOk}
 use Rattle.std.specs.Prelude.{IsSome}
 use Rattle.std.specs.List.{All, flat_map, range_with_len}
 use Rattle.std.proofs.lemmas.List.{get_or_at, map-append, take_more, take_all}
 use Rattle.std.proofs.lemmas.List.Elements.{All-nil, All-cons, All-append, All-get_or, filter-append}
 use Rattle.std.proofs.lemmas.Grind.{flat_map-append}
+use Rattle.std.specs.declared.alloc.Global.{Global}
+use Rattle.std.specs.declared.vec.Vec.{Vec}
 use Rattle.pdn_base.specs.declared.marks.Kind.{Kind}
 use Rattle.pdn_base.specs.declared.order.Key.{Key}
 use Rattle.pdn_base.specs.declared.site.Site.{Site}
@@ -13,18 +15,19 @@ use Rattle.pdn_base.specs.Operators.{Rows, listed}
 use Rattle.pdn_base.specs.Words.{xor_lists}
 use Rattle.pdn_base.proofs.WordLists.{length-xor_lists}
 use Rattle.pdn_schema.specs.Models.{SchemaModel}
-use Rattle.pdn_schema.specs.Rows.{union}
 use Rattle.pdn_tree.specs.declared.node.Node.{Node}
-use Rattle.pdn_tree.specs.Meaning.{mean}
 use Rattle.pdn_tree.specs.Shapes.{kinds}
 use Rattle.pdn_circuit.specs.Gates.{Net, HasCounts, given_count, output_words}
 use Rattle.pdn_obl_rows.specs.Lists.{valid_rows}
 use Rattle.pdn_obl_rows.specs.Encoding.{RowsAreOf, list_from}
 use Rattle.pdn_obl_rows.proofs.EncodingSteps.{range_more}
+use Rattle.pdn_dealer.specs.Sections.{layout_of, section_length}
+use Rattle.pdn_dealer.specs.Tapes.{first_words}
 use Rattle.pdn_gmw.specs.Pairs.{Run}
 use Rattle.pdn_level.specs.Models.{SegmentModel}
 use Rattle.pdn_level.specs.Levels.{segments_of}
 use Rattle.pdn_level.specs.Cutting.{slice_column}
+use Rattle.pdn_pool.specs.Results.{EachGives}
 use Rattle.pdn_site.specs.declared.unit.UnitKind.{UnitKind}
 use Rattle.pdn_site.specs.declared.unit.UnitKind.TheVariants.{Plain, Secure, Root}
 use Rattle.pdn_site.specs.Directories.{unit_values, kind_of}
@@ -39,11 +42,11 @@ use Rattle.pdn_site.proofs.TakesLaws.{unit_takes}
 use Rattle.pdn_site.proofs.RootTakes.{root_takes}
 use Rattle.pdn_broker.specs.declared.answered.Dealt.{Dealt}
 use Rattle.pdn_broker.specs.Runs.{Both, Shared, Takes, Tape, world, section_at, run_on}
-use Rattle.pdn_broker.specs.Answering.{nothing_given, root_own, root_len, top_order}
+use Rattle.pdn_broker.specs.Answering.{nothing_given, root_len, top_order}
 use Rattle.pdn_broker.specs.Units.{AreUnits, UnitsTell, secure_words, secure_own, unit_gives, gives_by, net_or, is_secure, numbers_upto}
 use Rattle.pdn_broker.specs.Prepared.{PreparedModel, IsPrepared}
-use Rattle.pdn_broker.specs.Running.{unit_at, root_number, root_of, engines_own, secure_run, secure_runs, outputs_of, root_run, opened_words, opened_list, Opens, AnswersMean}
-use Rattle.pdn_broker.proofs.RunLaws.{dealt_shared, shared_nothing, shared_append}
+use Rattle.pdn_broker.specs.Running.{unit_at, root_number, root_of, engines_own, secure_run_on, secure_run, secure_runs, outputs_of, root_run, opened_words, opened_list, Opens, AnswersMean}
+use Rattle.pdn_broker.proofs.RunLaws.{dealt_shared, run_where_dealt, shared_nothing, shared_append}
 use Rattle.pdn_broker.proofs.AnswerLaws.{Answers, opens_plain, answers_from}
 use Rattle.pdn_broker.proofs.UnitLaws.{made, all_made, flat, compiled_tell}
 
@@ -296,16 +299,36 @@ pub secure_run_takes : (p : PreparedModel) → IsPrepared p → (u : ℕ) (net :
     → own ≡ engines_own p.a p.b (unit_at p u) → given ≡ nothing_given → Takes net own given
 secure_run_takes p is u net own given h k n o g = takes_as (secure_takes p is u h k) n o g
 
-pub secure_run_is : (p : PreparedModel) (tape : Tape) (at : Dealt) (net : Net) (own given : Both) (run : Run) → net ≡ net_or (unit_at p at.unit).circuit → own ≡ engines_own p.a p.b (unit_at p at.unit)
-    → given ≡ nothing_given → run ≡ run_on net (section_at tape at net) own given → run ≡ secure_run p tape at.ticket at.unit
+pub secure_run_made : (p : PreparedModel) (u : ℕ) (words : List ℕ) (net : Net) (own given : Both) (run : Run) → net ≡ net_or (unit_at p u).circuit → own ≡ engines_own p.a p.b (unit_at p u)
+    → given ≡ nothing_given → run ≡ run_on net (layout_of net words) own given → run ≡ secure_run_on p u words
+secure_run_made p u words net own given run n o g r =
+    let at : Net = net_or (unit_at p u).circuit in
+    r ∙ ap (λ (m : Net). run_on m (layout_of m words) own given) n ∙ ap₂ (λ (s t : Both). run_on at (layout_of at words) s t) o g
+
+-- the run on the section that is dealt for the unit
+pub secure_run_is : (p : PreparedModel) (tape : Tape) (at : Dealt) (words : List ℕ) (len : ℕ) (run : Run) → words ≡ first_words (tape at.ticket at.unit) len
+    → len ≡ section_length (net_or (unit_at p at.unit).circuit) → run ≡ secure_run_on p at.unit words → run ≡ secure_run p tape at.ticket at.unit
 unfolding secure_run
-secure_run_is p tape at net own given run n o g r = r ∙ run_as tape at n o g
+secure_run_is p tape at words len run w l r =
+    run_where_dealt (net_or (unit_at p at.unit).circuit) tape at words len (engines_own p.a p.b (unit_at p at.unit)) nothing_given run w l r
 
 -- a unit that tells so is a secure one
 pub secure_kind : (k : UnitKind) → is_secure k ≡ true → k ≡ Secure
 secure_kind (Plain site) e = absurd (true≢false (sym e))
 secure_kind Secure e = refl
 secure_kind Root e = absurd (true≢false (sym e))
+
+-- ---- jobs, each of which gives the run that it is seen as
+each_given : {X : Type 0} (jobs outs : List X) → length outs ≡ length jobs → EachGives (λ (job out : X). out ≡ job) jobs outs → outs ≡ jobs
+each_given [] [] l e = refl
+each_given [] (o ∷ os) l e = absurd (omega (arith, l))
+each_given (j ∷ js) [] l e = absurd (omega (arith, l))
+each_given (j ∷ js) (o ∷ os) l e = ap₂ (λ x xs. x ∷ xs) (e 0 j o (omega arith)) (each_given js os (omega (arith, l)) (λ i job out h. e (suc i) job out (omega (arith, h))))
+
+pub runs_given : {E : Type 0} (jobs runs : List Run) (r : Result (Vec Run Global) E) → IfOk r (λ outs. length outs.items ≡ length jobs)
+    → IfOk r (λ outs. EachGives (λ (job run : Run). run ≡ job) jobs outs.items) → jobs ≡ runs → IfOk r (λ outs. outs.items ≡ runs)
+runs_given jobs runs (Ok outs) count each are = each_given jobs outs.items count each ∙ are
+runs_given jobs runs (Err e) count each are = count
 
 -- the root
 last_is : (p : PreparedModel) → IsPrepared p → (count : ℕ) → count ≡ length p.units → count - 1 ≡ root_number p

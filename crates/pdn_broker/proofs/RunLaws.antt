@@ -1,5 +1,5 @@
 -- Two halves on one section: what they put out comes to the circuit's words, and each puts out as many.
-use Rattle.std.proofs.Common.{◌≡◌, ℕ, zero, suc, ◌+◌, ◌<◌, Bool, true, false, cond, List, [], ◌∷◌, ◌++◌, length, take, get_or, refl, sym, ap, ap₂, ◌∙◌, subst, arith, length-append}
+use Rattle.std.proofs.Common.{◌≡◌, ℕ, zero, suc, ◌+◌, ◌<◌, Bool, true, false, cond, List, [], ◌∷◌, ◌++◌, length, take, get_or, refl, sym, ap, ap₂, ◌∙◌, arith, length-append}
 use Rattle.std.proofs.lemmas.List.{length-map}
 use Rattle.pdn_base.specs.declared.site.Site.{Site}
 use Rattle.pdn_base.specs.declared.site.Site.TheVariants.{A, B}
@@ -69,20 +69,30 @@ xor_step xs ys words new k x y h l w d e n =
     let more : suc k ≡ k + 1 = omega arith in
     n ∙ ap₂ (λ (ws : List ℕ) z. ws ++ z ∷ []) w (ap₂ (λ p q. p ⊕ q) d e) ∙ sym (xor_more xs ys k x y h (omega (arith, h, l))) ∙ ap (λ m. xor_lists (take m xs) (take m ys)) more
 
--- two halves that were begun on the parts of the section that is dealt
-pub run_on_section : (net : Net) (tape : Tape) (at : Dealt) (words : List ℕ) (len : ℕ) (own given : Both) (own_a own_b given_a given_b : List ℕ) (part_a part_b : PartWords) (a b : HalfState) (run : Run)
-    → words ≡ first_words (tape at.ticket at.unit) len → len ≡ section_length net → ◌≡◌ {A = Both} (record { a = own_a; b = own_b }) own → ◌≡◌ {A = Both} (record { a = given_a; b = given_b }) given
+-- two halves that were begun on the parts of a section
+pub run_on_parts : (net : Net) (words : List ℕ) (own given : Both) (own_a own_b given_a given_b : List ℕ) (part_a part_b : PartWords) (a b : HalfState) (run : Run)
+    → ◌≡◌ {A = Both} (record { a = own_a; b = own_b }) own → ◌≡◌ {A = Both} (record { a = given_a; b = given_b }) given
     → part_a ≡ part_of A (layout_of net words) → part_b ≡ part_of B (layout_of net words) → a ≡ begun net (half_words A own_a given_a part_a) → b ≡ begun net (half_words B own_b given_b part_b)
-    → run ≡ run_of a b → run ≡ run_on net (section_at tape at net) own given
-unfolding run_on section_at
-run_on_section net tape at words len own given own_a own_b given_a given_b part_a part_b a b run w l o g pa pb ea eb r =
-    let t : Layout = layout_of net (first_words (tape at.ticket at.unit) (section_length net)) in
-    let section : layout_of net words ≡ t = ap (layout_of net) (w ∙ ap (first_words (tape at.ticket at.unit)) l) in
+    → run ≡ run_of a b → run ≡ run_on net (layout_of net words) own given
+unfolding run_on
+run_on_parts net words own given own_a own_b given_a given_b part_a part_b a b run o g pa pb ea eb r =
+    let t : Layout = layout_of net words in
     let half_a : a ≡ half_on A net t own.a given.a
-    = ea ∙ ap (λ (p : PartWords). begun net (half_words A own_a given_a p)) (pa ∙ ap (part_of A) section) ∙ ap₂ (λ (s u : Both). begun net (half_words A s.a u.a (part_of A t))) o g in
+    = ea ∙ ap (λ (p : PartWords). begun net (half_words A own_a given_a p)) pa ∙ ap₂ (λ (s u : Both). begun net (half_words A s.a u.a (part_of A t))) o g in
     let half_b : b ≡ half_on B net t own.b given.b
-    = eb ∙ ap (λ (p : PartWords). begun net (half_words B own_b given_b p)) (pb ∙ ap (part_of B) section) ∙ ap₂ (λ (s u : Both). begun net (half_words B s.b u.b (part_of B t))) o g in
+    = eb ∙ ap (λ (p : PartWords). begun net (half_words B own_b given_b p)) pb ∙ ap₂ (λ (s u : Both). begun net (half_words B s.b u.b (part_of B t))) o g in
     r ∙ ap₂ run_of half_a half_b
+
+-- a section that was dealt has as many words as the circuit needs
+pub dealt_length : (net : Net) (tape : Tape) (at : Dealt) (words : List ℕ) (len : ℕ) → words ≡ first_words (tape at.ticket at.unit) len → len ≡ section_length net → length words ≡ section_length net
+dealt_length net tape at words len w l = ap length w ∙ length-first_words (tape at.ticket at.unit) len ∙ l
+
+-- and a run on its words is one on the section that is dealt
+pub run_where_dealt : (net : Net) (tape : Tape) (at : Dealt) (words : List ℕ) (len : ℕ) (own given : Both) (run : Run)
+    → words ≡ first_words (tape at.ticket at.unit) len → len ≡ section_length net → run ≡ run_on net (layout_of net words) own given → run ≡ run_on net (section_at tape at net) own given
+unfolding section_at
+run_where_dealt net tape at words len own given run w l r =
+    r ∙ ap (λ (ws : List ℕ). run_on net (layout_of net ws) own given) (w ∙ ap (first_words (tape at.ticket at.unit)) l)
 
 -- ---- words that stood in a list for each site
 pub given_same : (net : Net) (own given : Both) (given_a given_b : List ℕ) → ◌≡◌ {A = Both} (record { a = given_a; b = given_b }) given → Takes net own given → length given_b ≡ length given_a

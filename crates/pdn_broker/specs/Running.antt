@@ -7,6 +7,7 @@ use Rattle.pdn_schema.specs.Rows.{union}
 use Rattle.pdn_tree.specs.Meaning.{mean}
 use Rattle.pdn_obl_rows.specs.Lists.{valid_rows}
 use Rattle.pdn_obl_rows.specs.Encoding.{RowsAreOf, list_from}
+use Rattle.pdn_dealer.specs.Sections.{layout_of}
 use Rattle.pdn_gmw.specs.Pairs.{Run}
 use Rattle.pdn_site.specs.Models.{UnitModel}
 use Rattle.pdn_site.specs.Laying.{list_words}
@@ -38,6 +39,10 @@ engines_own a b unit = record { a = secure_words a (segment_number unit) (value_
 -- the run of a unit's circuit on these words, and on the section that is dealt for this ticket and the unit's number
 abbrev pub run_at : PreparedModel → Tape → ℕ → ℕ → Both → Both → Run
 run_at p tape ticket u own given = run_on (net_or (unit_at p u).circuit) (section_at tape (record { ticket = ticket; unit = u }) (net_or (unit_at p u).circuit)) own given
+
+-- the run of a secure unit, on both sites' words and on these words of a section
+abbrev pub secure_run_on : PreparedModel → ℕ → List ℕ → Run
+secure_run_on p u words = run_on (net_or (unit_at p u).circuit) (layout_of (net_or (unit_at p u).circuit) words) (engines_own p.a p.b (unit_at p u)) nothing_given
 
 -- the run of a secure unit, on both sites' words
 unfoldable pub secure_run : PreparedModel → Tape → ℕ → ℕ → Run

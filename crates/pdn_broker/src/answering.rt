@@ -1,13 +1,11 @@
 //! The answer of a prepared query.
-ghost use Rattle.std.specs.Prelude.{◌≡◌, ◌<◌, ◌^◌, ◌++◌, [], ◌∷◌, length, cond, IfOk, OnOk};
+ghost use Rattle.std.specs.Prelude.{◌≡◌, ◌≤◌, ◌<◌, ◌^◌, ◌++◌, [], ◌∷◌, length, cond, IfOk, OnOk};
 ghost use Rattle.pdn_base.specs.Operators.{listed};
 ghost use Rattle.pdn_schema.specs.Rows.{union};
 ghost use Rattle.pdn_tree.specs.Meaning.{mean};
-ghost use Rattle.pdn_site.specs.declared.unit.UnitKind.TheVariants as kind;
 ghost use Rattle.pdn_broker.specs.Units.{is_dealt, is_secure, dealt_of};
 ghost use Rattle.pdn_broker.specs.Running.{
   unit_at,
-  engines_own,
   secure_run,
   secure_runs,
   outputs_of,
@@ -21,82 +19,73 @@ use crate::answered::{Answered, Dealt};
 use crate::opening::opened_rows;
 use crate::prepared::Prepared;
 use crate::shares::Shares;
+use crate::unit_job::UnitJob;
 use crate::unit_run::run_unit;
 use crate::units::{circuit_of, is_dealt, is_secure, room_of, unit_at};
 use pdn_base::{Memory, Rows};
 use pdn_dealer::Deal;
 use pdn_gmw::UnitRun;
+use pdn_pool::run_all;
 use pdn_site::{Unit, Units};
 use std::alloc::Global;
+use std::thread::Threads;
 
-/// Both sites' words of a secure unit.
-fn secure_own(alloc: Global, prepared: &Prepared, unit: u64) -> Result<Shares, Memory>
-    requires in_range { unit < length prepared.now.units }
-    requires secure { (unit_at prepared.now unit).kind ≡ kind.Secure }
-    ensures { IfOk result (λ own.
-        own ≡ engines_own prepared.now.a prepared.now.b (unit_at prepared.now unit)) }
-{
-    Ok(Shares {
-        a: prepared.a.secure_inputs(alloc, &prepared.units, unit)?,
-        b: prepared.b.secure_inputs(alloc, &prepared.units, unit)?,
-    })
-}
-
-/// The run of a secure unit, on the section of this ticket and the unit's number.
-fn secure_run<D: Deal>(
-    alloc: Global,
-    prepared: &Prepared,
+/// Adds the job of a unit, where it is a secure one.
+fn push_job<'a, D: Deal>(
+    jobs: &mut Vec<UnitJob<'a, D>>,
+    prepared: &'a Prepared,
     at: Dealt,
-    deal: &D,
-) -> Result<UnitRun, Memory>
-    requires in_range { at.unit < length prepared.now.units }
-    requires secure { (unit_at prepared.now at.unit).kind ≡ kind.Secure }
-    ensures { IfOk result (λ run.
-        run ≡ secure_run prepared.now (D.tape deal.now) at.ticket at.unit) }
-{
-    let own = secure_own(alloc, prepared, at.unit)?;
-    let unit = unit_at(&prepared.units, at.unit);
-    run_unit(alloc, circuit_of(unit), own, Shares::new(alloc), deal, at)
-}
-
-/// Adds the run of a unit, where it is a secure one.
-fn push_run<D: Deal>(
-    alloc: Global,
-    runs: &mut Vec<UnitRun>,
-    prepared: &Prepared,
-    at: Dealt,
-    deal: &D,
+    deal: &'a D,
 ) -> Result<(), Memory>
     requires { at.unit < length prepared.now.units }
-    ensures { OnOk result (runs.new.items
-        ≡ runs.old.items ++ cond (is_secure (unit_at prepared.now at.unit).kind)
+    ensures { OnOk result (jobs.new.items
+        ≡ jobs.old.items ++ cond (is_secure (unit_at prepared.now at.unit).kind)
         (secure_run prepared.now (D.tape deal.now) at.ticket at.unit ∷ []) []) }
 {
     if is_secure(unit_at(&prepared.units, at.unit)) {
-        let run = secure_run(alloc, prepared, at, deal)?;
-        runs.push(run)?;
+        jobs.push(UnitJob { prepared, at, deal })?;
     }
     Ok(())
 }
 
-/// Runs the secure units one after the other, each on the section of this ticket and its own number.
-fn secure_runs<D: Deal>(
+/// The jobs of the secure units, in unit order, each on the section of this ticket and its own number.
+fn secure_jobs<'a, D: Deal>(
     alloc: Global,
-    prepared: &Prepared,
+    prepared: &'a Prepared,
     ticket: u64,
-    deal: &D,
-) -> Result<Vec<UnitRun>, Memory>
-    ensures { IfOk result (λ runs. runs.items ≡ secure_runs prepared.now (D.tape deal.now) ticket) }
+    deal: &'a D,
+) -> Result<Vec<UnitJob<'a, D>>, Memory>
+    ensures { IfOk result (λ jobs. jobs.items ≡ secure_runs prepared.now (D.tape deal.now) ticket) }
 {
-    let mut runs = Vec::new(alloc);
+    let mut jobs = Vec::new(alloc);
     for k in 0..prepared.units.units.len() {
         let at = Dealt {
             ticket,
             unit: k as u64,
         };
-        push_run(alloc, &mut runs, prepared, at, deal)?;
+        push_job(&mut jobs, prepared, at, deal)?;
     }
-    Ok(runs)
+    Ok(jobs)
+}
+
+/// Runs the secure units by these workers. Whichever worker runs a unit, and when, its run is the same and stands in its place.
+fn secure_runs<R: Threads + Sync, D: Deal>(
+    rt: &R,
+    alloc: Global,
+    prepared: &Prepared,
+    ticket: u64,
+    deal: &D,
+    workers: u32,
+) -> Result<Vec<UnitRun>, Memory>
+    requires { (1 ≤ workers) × (workers ≤ 16) }
+    ensures { IfOk result (λ runs. runs.items ≡ secure_runs prepared.now (D.tape deal.now) ticket) }
+{
+    let jobs = secure_jobs(alloc, prepared, ticket, deal)?;
+    // More jobs than their numbers can tell.
+    if jobs.len() >= u32::MAX as usize {
+        return Err(Memory);
+    }
+    run_all(rt, alloc, jobs.as_slice(), workers)
 }
 
 /// What each site's halves of these runs put out, one after the other.
@@ -178,12 +167,15 @@ fn dealt_sections(alloc: Global, units: &Units, ticket: u64) -> Result<Vec<Dealt
 }
 
 /// The answer of a prepared query, which is kept.
-fn kept_answer<D: Deal>(
+fn kept_answer<R: Threads + Sync, D: Deal>(
+    rt: &R,
     alloc: Global,
     prepared: &Prepared,
     ticket: u64,
     deal: &D,
+    workers: u32,
 ) -> Result<Answered, Memory>
+    requires { (1 ≤ workers) × (workers ≤ 16) }
     ensures rows { IfOk result (λ answered.
         answered.rows
         ≡ mean (union prepared.now.a.tables prepared.now.b.tables) prepared.now.a.root) }
@@ -191,7 +183,7 @@ fn kept_answer<D: Deal>(
         answered.dealt.items ≡ dealt_of ticket prepared.now.units) }
     ensures is { IfOk result (IsAnswered prepared.now (D.tape deal.now) ticket) }
 {
-    let mut runs = secure_runs(alloc, prepared, ticket, deal)?;
+    let mut runs = secure_runs(rt, alloc, prepared, ticket, deal, workers)?;
     let given = outputs_of(alloc, runs.as_slice())?;
     let root = root_run(alloc, prepared, given, ticket, deal)?;
     let rows = rows_of(alloc, prepared, &root)?;
@@ -205,19 +197,25 @@ fn kept_answer<D: Deal>(
 /// run on each of them. Each section is that of this ticket and the unit's own number, and the root's given words are what the
 /// halves of the secure units put out.
 ///
+/// The secure units are run by 1 to 16 workers, and then the root by the caller's thread. A unit's section is dealt and split where
+/// the unit is run. What is answered is the same for each number of workers.
+///
 /// Memory is the only error.
-pub fn answer<D: Deal>(
+pub fn answer<R: Threads + Sync, D: Deal>(
+    rt: &R,
     alloc: Global,
     prepared: Prepared,
     ticket: u64,
     deal: &D,
+    workers: u32,
 ) -> Result<Answered, Memory>
-    requires { ticket < 2 ^ 40 }
+    requires ticket { ticket < 2 ^ 40 }
+    requires workers { (1 ≤ workers) × (workers ≤ 16) }
     ensures rows { IfOk result (λ answered.
         answered.rows ≡ mean (union prepared.a.tables prepared.b.tables) prepared.a.root) }
     ensures dealt { IfOk result (λ answered.
         answered.dealt.items ≡ dealt_of ticket prepared.units) }
     ensures is { IfOk result (IsAnswered prepared (D.tape deal.now) ticket) }
 {
-    kept_answer(alloc, &prepared, ticket, deal)
+    kept_answer(rt, alloc, &prepared, ticket, deal, workers)
 }

@@ -8,6 +8,7 @@ mod opening;
 mod prepared;
 mod preparing;
 mod shares;
+mod unit_job;
 mod unit_run;
 mod units;
 

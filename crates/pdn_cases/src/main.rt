@@ -14,6 +14,7 @@ use running::{Outcome, outcome_of};
 use std::io;
 use std::process::ExitCode;
 use std::rt::Files;
+use std::thread::Threads;
 
 fn main(rt: HostRuntime) -> ExitCode {
     match run_all(&rt) {
@@ -23,7 +24,9 @@ fn main(rt: HostRuntime) -> ExitCode {
 }
 
 // Whether every case came as wanted.
-fn run_all<R: Files + Print + AllocGlobal + Clone + Drop>(rt: &R) -> io::Result<bool> {
+fn run_all<R: Files + Print + Threads + AllocGlobal + Clone + Drop + Sync>(
+    rt: &R,
+) -> io::Result<bool> {
     let names = cases_there(rt)?;
     let mut differ = 0u64;
     for name in &names {
@@ -36,7 +39,7 @@ fn run_all<R: Files + Print + AllocGlobal + Clone + Drop>(rt: &R) -> io::Result<
 }
 
 // Whether a case came as wanted. What came in its place is told.
-fn is_as_wanted<R: Files + Print + AllocGlobal + Clone + Drop>(
+fn is_as_wanted<R: Files + Print + Threads + AllocGlobal + Clone + Drop + Sync>(
     rt: &R,
     name: &str,
 ) -> io::Result<bool> {
@@ -58,12 +61,12 @@ fn is_as_wanted<R: Files + Print + AllocGlobal + Clone + Drop>(
 }
 
 // A case, and what came of it.
-fn run_case<R: Files + AllocGlobal + Clone + Drop>(
+fn run_case<R: Files + Threads + AllocGlobal + Clone + Drop + Sync>(
     rt: &R,
     name: &str,
 ) -> Result<(Case, Outcome), CaseErr> {
     let alloc = rt.alloc();
     let case = Case::read(alloc, &files_in(rt, name)?)?;
-    let outcome = outcome_of(alloc, &case, files_in(rt, name)?, files_in(rt, name)?)?;
+    let outcome = outcome_of(rt, alloc, &case, files_in(rt, name)?, files_in(rt, name)?)?;
     Ok((case, outcome))
 }

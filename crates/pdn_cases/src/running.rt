@@ -8,6 +8,7 @@ use pdn_commands::pdn;
 use pdn_dealer::Deal;
 use pdn_startup::{ImportErr, dealer_of};
 use std::alloc::Global;
+use std::thread::Threads;
 
 /// The statuses of the commands, and all that the sink took.
 #[derive(Drop)]
@@ -30,7 +31,8 @@ impl Outcome {
 }
 
 /// What comes of a case with these files: those that the commands may read, and those of which the sites' rows are.
-pub fn outcome_of(
+pub fn outcome_of<R: Threads + Sync>(
+    rt: &R,
     alloc: Global,
     case: &Case,
     files: Vec<NamedFile>,
@@ -51,8 +53,14 @@ pub fn outcome_of(
         Err(ImportErr::Memory) => return Err(CaseErr::Memory),
     }
     match dealer {
-        Some(deal) => run_all(alloc, case, objects, &deal),
-        None => run_all(alloc, case, objects, &dealer_of_ones(alloc, &case.ones)?),
+        Some(deal) => run_all(rt, alloc, case, objects, &deal),
+        None => run_all(
+            rt,
+            alloc,
+            case,
+            objects,
+            &dealer_of_ones(alloc, &case.ones)?,
+        ),
     }
 }
 
@@ -66,7 +74,8 @@ fn fault(alloc: Global, mut objects: Objects, name: &str) -> Result<Outcome, Cas
 }
 
 // The commands of a case, one after the other.
-fn run_all<D: Deal>(
+fn run_all<R: Threads + Sync, D: Deal>(
+    rt: &R,
     alloc: Global,
     case: &Case,
     mut objects: Objects,
@@ -74,7 +83,7 @@ fn run_all<D: Deal>(
 ) -> Result<Outcome, CaseErr> {
     let mut statuses = Vec::new(alloc);
     for words in &case.commands {
-        let status = pdn(alloc, words, &mut objects, deal);
+        let status = pdn(rt, alloc, words, &mut objects, deal);
         statuses.push(u64::from(status.code()))?;
     }
     came_of(alloc, statuses, &objects)

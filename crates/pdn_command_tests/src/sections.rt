@@ -92,7 +92,7 @@ fn two_queries_ask_for_the_sections_of_tickets_0_and_1_once(rt: HostRuntime) -> 
         out: MemSink::new(alloc, 1000, Vec::new(alloc))?,
     };
     let deal = Recording::new(alloc);
-    let status = pdn(alloc, &words(alloc)?, &mut world, &deal);
+    let status = pdn(&rt, alloc, &words(alloc)?, &mut world, &deal);
     assert_eq!(rt; status.code(), 0);
     assert_eq!(rt; deal.first.load(Ordering::SeqCst), 1);
     assert_eq!(rt; deal.second.load(Ordering::SeqCst), 1);

@@ -22,7 +22,7 @@ pub data Task : Type 0 where
 
 -- what a command of the code asks for
 abbrev pub seen : Command → Task
-seen (command.Run file workers) = Run file.now workers
+seen (command.Run file workers) = Run file.now workers.count
 seen (command.Check file) = Check file.now
 seen (command.Load site table batch file) = Load site table.now batch file.now
 

@@ -8,6 +8,7 @@ ghost use Rattle.pdn_base.specs.Numbers.{value_of};
 ghost use Rattle.pdn_commands.specs.Commands.{task_of, run_task, check_task, load_task, workers_of, site_of, batch_of, seen};
 
 use pdn_base::{Site, number};
+use pdn_query::Workers;
 
 /// What a command line asks for.
 #[derive(Clone, Copy, Debug)]
@@ -15,7 +16,7 @@ pub enum Command<'a> {
     /// `run <sqlfile> <workers>`
     Run {
         file: &'a str,
-        workers: u8,
+        workers: Workers,
     },
     /// `check <sqlfile>`
     Check {
@@ -92,14 +93,14 @@ fn read_site(word: &str) -> Option<Site>
     }
 }
 
-fn read_workers(word: &[u8]) -> Option<u8>
-    ensures { result ≡ workers_of word.now }
+fn read_workers(word: &[u8]) -> Option<Workers>
+    ensures { option_map (λ workers. workers.count) result ≡ workers_of word.now }
 {
     let count = number(word)?;
     if count < 1 || count > 16 || word[0] == b'0' {
         return None;
     }
-    Some(count as u8)
+    Some(Workers { count })
 }
 
 // The number of a batch: 0 to 2^64 - 1, without a leading zero.

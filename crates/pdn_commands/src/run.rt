@@ -12,18 +12,19 @@ ghost use Rattle.pdn_script.specs.Stops.{end_of};
 use crate::inputs::{MOST_QUERIES, queries_of, read_inputs};
 use pdn_dealer::Deal;
 use pdn_plan::texts_are_written;
-use pdn_query::{Numbered, Outside, query_answer, say};
+use pdn_query::{Crew, Numbered, Outside, query_answer, say};
 use pdn_schema::Schema;
 use pdn_script::Stop;
 use pdn_sql::Query;
 use std::alloc::Global;
+use std::thread::Threads;
 
 /// Answers the queries of the file in order, each in one put, up to the first that is refused.
-pub fn run<W: Outside, D: Deal>(
+pub fn run<R: Threads + Sync, W: Outside, D: Deal>(
     alloc: Global,
     file: &str,
     world: &mut W,
-    deal: &D,
+    crew: &Crew<'_, R, D>,
 ) -> Result<(), Stop>
     ensures goes { Along (W.state world.old) (W.state world.new)
         (run_script file.now) (end_of result) }
@@ -32,16 +33,16 @@ pub fn run<W: Outside, D: Deal>(
     let inputs = read_inputs(alloc, file, world)?;
     let queries = queries_of(alloc, &inputs.text)?;
     texts_are_written(&inputs.text, MOST_QUERIES);
-    answer_all(alloc, &inputs.schema, &queries, world, deal)
+    answer_all(alloc, &inputs.schema, &queries, world, crew)
 }
 
 // Each query in order. The number of one, and its ticket, count those before it, from 1 and from 0.
-fn answer_all<W: Outside, D: Deal>(
+fn answer_all<R: Threads + Sync, W: Outside, D: Deal>(
     alloc: Global,
     schema: &Schema,
     queries: &[Query],
     world: &mut W,
-    deal: &D,
+    crew: &Crew<'_, R, D>,
 ) -> Result<(), Stop>
     requires { AllByRecursion IsWritten queries.now }
     ensures goes { Along (W.state world.old) (W.state world.new)
@@ -54,18 +55,18 @@ fn answer_all<W: Outside, D: Deal>(
             ticket: i as u64,
             query,
         };
-        answer(alloc, schema, asked, world, deal)?;
+        answer(alloc, schema, asked, world, crew)?;
     }
     Ok(())
 }
 
 // One query's answer, in one put.
-fn answer<W: Outside, D: Deal>(
+fn answer<R: Threads + Sync, W: Outside, D: Deal>(
     alloc: Global,
     schema: &Schema,
     asked: Numbered<'_>,
     world: &mut W,
-    deal: &D,
+    crew: &Crew<'_, R, D>,
 ) -> Result<(), Stop>
     requires written { IsWritten asked.query.now }
     ensures came { (rest : Script) →
@@ -75,6 +76,6 @@ fn answer<W: Outside, D: Deal>(
         (λ _. rest) result }
     ensures same { (W.state world.new).told ≡ (W.state world.old).told }
 {
-    let text = query_answer(alloc, schema, asked, world, deal)?;
+    let text = query_answer(alloc, schema, asked, world, crew)?;
     say(world, &text)
 }

@@ -15,13 +15,21 @@ use crate::load::{BatchFile, load};
 use crate::run::run;
 use pdn_base::Status;
 use pdn_dealer::Deal;
-use pdn_query::Outside;
+use pdn_query::{Crew, Outside};
 use pdn_script::{Stop, refused};
 use std::alloc::Global;
+use std::thread::Threads;
 
 /// Does what the words of a command line say, over these files and the rows that the sites keep, and puts the answers or
-/// the line of the first refusal on the sink. What is put is the same whatever words the dealer deals.
-pub fn pdn<W: Outside, D: Deal>(alloc: Global, words: &[String], world: &mut W, deal: &D) -> Status
+/// the line of the first refusal on the sink. What is put is the same whatever words the dealer deals, and by
+/// however many workers.
+pub fn pdn<R: Threads + Sync, W: Outside, D: Deal>(
+    rt: &R,
+    alloc: Global,
+    words: &[String],
+    world: &mut W,
+    deal: &D,
+) -> Status
     // What is put, answered and kept is what the script says, but for want of memory and for faults of an object whose
     // count rose.
     ensures answers { Answered (W.state world.old) (W.state world.new)
@@ -60,10 +68,16 @@ pub fn pdn<W: Outside, D: Deal>(alloc: Global, words: &[String], world: &mut W, 
     // The count of faults of an object never falls.
     ensures later { NotFallen (W.state world.old).counts (W.state world.new).counts }
 {
-    perform(alloc, words, world, deal)
+    perform(rt, alloc, words, world, deal)
 }
 
-fn perform<W: Outside, D: Deal>(alloc: Global, words: &[String], world: &mut W, deal: &D) -> Status
+fn perform<R: Threads + Sync, W: Outside, D: Deal>(
+    rt: &R,
+    alloc: Global,
+    words: &[String],
+    world: &mut W,
+    deal: &D,
+) -> Status
     ensures answers { Answered (W.state world.old) (W.state world.new)
         (script (map string_bytes words.now)) result }
     ensures kept_a { loads A (task_of (map string_bytes words.now)) ≡ false
@@ -73,12 +87,13 @@ fn perform<W: Outside, D: Deal>(alloc: Global, words: &[String], world: &mut W, 
     ensures spared { result ≡ Status.Memory → (W.state world.new).told ≡ (W.state world.old).told }
     ensures later { NotFallen (W.state world.old).counts (W.state world.new).counts }
 {
-    let came = follow(alloc, words, world, deal);
+    let came = follow(rt, alloc, words, world, deal);
     world.conclude(came)
 }
 
 // All but the line of a refusal.
-fn follow<W: Outside, D: Deal>(
+fn follow<R: Threads + Sync, W: Outside, D: Deal>(
+    rt: &R,
     alloc: Global,
     words: &[String],
     world: &mut W,
@@ -94,7 +109,10 @@ fn follow<W: Outside, D: Deal>(
         → (W.state world.new).told ≡ (W.state world.old).told }
 {
     match read_command(words) {
-        Some(Command::Run { file, .. }) => run(alloc, file, world, deal),
+        Some(Command::Run { file, workers }) => {
+            let crew = Crew { rt, deal, workers };
+            run(alloc, file, world, &crew)
+        }
         Some(Command::Check { file }) => check(alloc, file, world),
         Some(
             Command::Load {

@@ -21,6 +21,7 @@ use crate::answer_text::answer_text;
 use crate::binding::bound;
 use crate::columns::column_name;
 use crate::tables::tables_at;
+use crate::workers::Crew;
 use crate::world::Outside;
 use pdn_base::{Memory, Rows, RowsErr, Site, Status, Tables};
 use pdn_broker::{PrepareErr, Prepared, answer, prepare};
@@ -30,6 +31,7 @@ use pdn_schema::{Schema, Table};
 use pdn_script::{Stop, refused, refused_at};
 use pdn_sql::Query;
 use std::alloc::Global;
+use std::thread::Threads;
 
 /// A query of a file: its number there, and the ticket of its sections of the tape.
 #[derive(Clone, Copy)]
@@ -40,12 +42,12 @@ pub struct Numbered<'a> {
 }
 
 /// The text of the answer to a query, over the rows of both sites.
-pub fn query_answer<W: Outside, D: Deal>(
+pub fn query_answer<R: Threads + Sync, W: Outside, D: Deal>(
     alloc: Global,
     schema: &Schema,
     asked: Numbered<'_>,
     world: &mut W,
-    deal: &D,
+    crew: &Crew<'_, R, D>,
 ) -> Result<Vec<u8>, Stop>
     requires written { IsWritten asked.query.now }
     ensures came { (next : List ℕ → Script) →
@@ -58,19 +60,19 @@ pub fn query_answer<W: Outside, D: Deal>(
     let plan = bound(alloc, schema, asked.query)?;
     let a = tables_at(alloc, Site::A, schema, &plan, world)?;
     let b = tables_at(alloc, Site::B, schema, &plan, world)?;
-    let rows = meant_rows(alloc, schema, asked, &plan, a, b, deal)?;
+    let rows = meant_rows(alloc, schema, asked, &plan, a, b, crew)?;
     Ok(answer_text(alloc, asked.number, asked.ticket, &plan, &rows)?)
 }
 
 // The rows that a query means over the union of both sites' tables, or the refusal.
-fn meant_rows<D: Deal>(
+fn meant_rows<R: Threads + Sync, D: Deal>(
     alloc: Global,
     schema: &Schema,
     asked: Numbered<'_>,
     plan: &Plan,
     a: Tables,
     b: Tables,
-    deal: &D,
+    crew: &Crew<'_, R, D>,
 ) -> Result<Rows, Stop>
     requires written { IsWritten asked.query.now }
     requires binds { IsBound schema.now asked.query.now (Ok plan.now) }
@@ -85,7 +87,7 @@ fn meant_rows<D: Deal>(
 {
     let prepared = ready(alloc, schema, plan, a, b)?;
     is_prepared(&prepared);
-    let rows = answered_rows(alloc, schema, asked.query, asked.ticket, prepared, deal)?;
+    let rows = answered_rows(alloc, schema, asked.query, asked.ticket, prepared, crew)?;
     Ok(rows)
 }
 
@@ -97,13 +99,13 @@ fn is_prepared(prepared: &Prepared)
 }
 
 // The answer of a query that is made ready.
-fn answered_rows<D: Deal>(
+fn answered_rows<R: Threads + Sync, D: Deal>(
     alloc: Global,
     schema: &Schema,
     query: &Query,
     ticket: u64,
     prepared: Prepared,
-    deal: &D,
+    crew: &Crew<'_, R, D>,
 ) -> Result<Rows, Memory>
     requires written { IsWritten query.now }
     requires passes { refusal schema.now query.now ≡ None }
@@ -118,7 +120,14 @@ fn answered_rows<D: Deal>(
     }
     valid_unions_fit(schema);
     plan_means_answer(schema, query);
-    let answered = answer(alloc, prepared, ticket, deal)?;
+    let answered = answer(
+        crew.rt,
+        alloc,
+        prepared,
+        ticket,
+        crew.deal,
+        crew.workers.count,
+    )?;
     Ok(answered.rows)
 }
 

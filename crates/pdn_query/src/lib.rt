@@ -7,6 +7,7 @@ mod binding;
 mod columns;
 mod tables;
 mod who;
+mod workers;
 mod world;
 
 pub use answer::{Numbered, query_answer};
@@ -14,4 +15,5 @@ pub use answer_text::query_name;
 pub use binding::bound;
 pub use columns::column_name;
 pub use who::who_of;
+pub use workers::{Crew, Workers};
 pub use world::{Batch, Outside, World, say};

@@ -1,8 +1,6 @@
-use Rattle.pdn_broker.specs.Units.{is_secure}
-use Rattle.pdn_broker.specs.Running.{secure_run}
-use Rattle.pdn_broker.proofs.PreparedLaws.{pushed_more}
+use Rattle.std.proofs.Common.{◌∙◌}
+use Rattle.pdn_broker.proofs.PreparedLaws.{runs_given}
 use Rattle.pdn_broker.proofs.answering.secure_runs.Goals as goal
 
-pub loop-k-preserved : goal.loop-k-preserved
-loop-k-preserved g c =
-    pushed_more (secure_run c.args.prepared.now (g.D.Deal.tape c.args.deal.now) c.args.ticket) is_secure c.args.prepared.now.units c.loop-k.k c.loop-k.runs.items c.push_run.new.runs.items c.loop-k.invariant c.in_ok-push_run.ensures
+pub returns : goal.returns
+returns g c = runs_given c.as_slice.result.now _ c.run_all.result c.run_all.ensures.count c.run_all.ensures.each (c.as_slice.ensures.value ∙ c.in_ok-jobs.ensures)

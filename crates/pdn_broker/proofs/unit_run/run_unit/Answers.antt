@@ -1,34 +1,13 @@
-use Rattle.std.proofs.Common.{ap, ◌∙◌, length}
 use Rattle.std.proofs.lemmas.Result.{IfOk-weaker}
-use Rattle.pdn_base.specs.declared.site.Site.TheVariants.{A, B}
-use Rattle.pdn_dealer.specs.Sections.{layout_of}
-use Rattle.pdn_gmw.proofs.Meeting.{part_fits, halves_of_section, fits_on, begun_on, length-first_words}
-use Rattle.pdn_broker.proofs.RunLaws.{run_on_section, given_same, own_fits_a, own_fits_b, given_fits_a, given_fits_b}
+use Rattle.pdn_broker.proofs.RunLaws.{dealt_length, run_where_dealt}
 use Rattle.pdn_broker.proofs.unit_run.run_unit.Goals as goal
 
-pub split-requires : goal.split-requires
-split-requires g c = ap length c.in_ok-section.ensures ∙ length-first_words _ _ ∙ c.section_len.ensures
-
-pub on-requires : goal.on-requires
-on-requires g c =
-    fits_on c.args.circuit.now c.in_ok-schedule.schedule _ c.in_ok-schedule.ensures
-    (part_fits c.args.circuit.now A c.in_ok-section.section _ _ _ (ap length c.in_ok-section.ensures ∙ length-first_words _ _ ∙ c.section_len.ensures) c.in_ok-part_a.ensures.a
-    (own_fits_a c.args.circuit.now c.args.own c.args.given _ _ c.own.view_is c.requires) (given_fits_a c.args.circuit.now c.args.own c.args.given _ _ c.given.view_is c.requires))
-
-pub on-requires-2 : goal.on-requires-2
-on-requires-2 g c =
-    fits_on c.args.circuit.now c.in_ok-schedule.schedule _ c.in_ok-schedule.ensures
-    (part_fits c.args.circuit.now B c.in_ok-section.section _ _ _ (ap length c.in_ok-section.ensures ∙ length-first_words _ _ ∙ c.section_len.ensures) c.in_ok-part_a.ensures.b
-    (own_fits_b c.args.circuit.now c.args.own c.args.given _ _ c.own.view_is c.requires) (given_fits_b c.args.circuit.now c.args.own c.args.given _ _ c.given.view_is c.requires))
-
-pub run_pair-requires : goal.run_pair-requires
-run_pair-requires g c =
-    halves_of_section c.args.circuit.now (layout_of c.args.circuit.now c.in_ok-section.section) _ _ _ _ _ _ _ _ c.in_ok-part_a.ensures.a c.in_ok-part_a.ensures.b
-    (given_same c.args.circuit.now c.args.own c.args.given _ _ c.given.view_is c.requires) (begun_on _ c.args.circuit.now c.in_ok-schedule.schedule _ c.in_ok-schedule.ensures c.in_ok-a.ensures) (begun_on _ c.args.circuit.now c.in_ok-schedule.schedule _ c.in_ok-schedule.ensures c.in_ok-b.ensures)
+pub run_dealt-requires-clause-section : goal.run_dealt-requires-clause-section
+run_dealt-requires-clause-section g c =
+    dealt_length c.args.circuit.now (g.D.Deal.tape c.args.deal.now) c.args.at c.in_ok-section.section _ c.in_ok-section.ensures c.section_len.ensures
 
 pub returns : goal.returns
 returns g c =
-    IfOk-weaker c.run_pair.result _ _
-    (λ run is. run_on_section c.args.circuit.now (g.D.Deal.tape c.args.deal.now) c.args.at c.in_ok-section.section _ c.args.own c.args.given _ _ _ _ _ _ _ _ run
-    c.in_ok-section.ensures c.section_len.ensures c.own.view_is c.given.view_is c.in_ok-part_a.ensures.a c.in_ok-part_a.ensures.b (begun_on _ c.args.circuit.now c.in_ok-schedule.schedule _ c.in_ok-schedule.ensures c.in_ok-a.ensures) (begun_on _ c.args.circuit.now c.in_ok-schedule.schedule _ c.in_ok-schedule.ensures c.in_ok-b.ensures) is)
-    c.run_pair.ensures.shares
+    IfOk-weaker c.run_dealt.result _ _
+    (λ run is. run_where_dealt c.args.circuit.now (g.D.Deal.tape c.args.deal.now) c.args.at c.in_ok-section.section _ c.args.own c.args.given run c.in_ok-section.ensures c.section_len.ensures is)
+    c.run_dealt.ensures
