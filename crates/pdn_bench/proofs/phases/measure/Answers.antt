@@ -1,4 +1,4 @@
-use Rattle.std.proofs.Common.{◌≡◌, ap, sym, ◌∙◌, length, arith}
+use Rattle.std.proofs.Common.{ap, sym, ◌∙◌, length}
 use Rattle.pdn_base.specs.declared.site.Site.TheVariants.{A, B}
 use Rattle.pdn_dealer.specs.Sections.{layout_of}
 use Rattle.pdn_gmw.proofs.Meeting.{part_fits, halves_of_section, fits_on, begun_on, length-first_words}
