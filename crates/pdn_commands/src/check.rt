@@ -118,7 +118,8 @@ fn put_segments(
     segments: &[Segment],
 ) -> Result<(), Memory>
     requires { number + length segments.now < 2 ^ 64 }
-    ensures { OnOk result (out.new.items ≡ out.old.items ++ segment_lines schema.now number segments.now) }
+    ensures { OnOk result
+        (out.new.items ≡ out.old.items ++ segment_lines schema.now number segments.now) }
 {
     let Some((segment, later)) = segments.split_first() else {
         return Ok(());
@@ -134,7 +135,8 @@ fn put_segment(
     number: usize,
     segment: &Segment,
 ) -> Result<(), Memory>
-    ensures { OnOk result (out.new.items ≡ out.old.items ++ segment_line schema.now number segment.now) }
+    ensures { OnOk result
+        (out.new.items ≡ out.old.items ++ segment_line schema.now number segment.now) }
 {
     let head = format!(in alloc; "segment {number} by")?;
     out.extend_from_slice(head.as_bytes())?;
@@ -170,14 +172,16 @@ fn leaf_text(alloc: Global, schema: &Schema, leaf: Leaf) -> Result<String, Memor
 }
 
 fn named(alloc: Global, table: &Table, column: u32) -> Result<String, Memory>
-    ensures { IfOk result (λ text. string_bytes text ≡ dotted table.now.name (column_name table.now column)) }
+    ensures { IfOk result (λ text.
+        string_bytes text ≡ dotted table.now.name (column_name table.now column)) }
 {
     let name = column_name(alloc, table, column)?;
     dotted(alloc, table.name.as_str(), name.as_str())
 }
 
 fn numbered(alloc: Global, leaf: Leaf) -> Result<String, Memory>
-    ensures { IfOk result (λ text. string_bytes text ≡ dotted (decimal leaf.table) (decimal leaf.column)) }
+    ensures { IfOk result (λ text.
+        string_bytes text ≡ dotted (decimal leaf.table) (decimal leaf.column)) }
 {
     let table = leaf.table;
     let column = leaf.column;

@@ -128,7 +128,8 @@ fn failed_line(alloc: Global, who: Who) -> Result<String, Memory>
 
 // The refusal of too many rows of one value of a column.
 fn over_per(alloc: Global, table: &Table, column: u32) -> Stop
-    ensures { IsRefusal table.now.name (column_name table.now column) (Status.OverBound (Some column)) result }
+    ensures { IsRefusal table.now.name (column_name table.now column)
+        (Status.OverBound (Some column)) result }
 {
     let Ok(name) = column_name(alloc, table, column) else {
         return Stop::Memory;
@@ -146,7 +147,8 @@ fn loaded_text(
     number: u64,
     rows: &Rows,
 ) -> Result<String, Memory>
-    ensures { IfOk result (λ text. string_bytes text ≡ loaded_text how.now table.now.name number (length rows.now)) }
+    ensures { IfOk result (λ text.
+        string_bytes text ≡ loaded_text how.now table.now.name number (length rows.now)) }
 {
     let name = table.name.as_str();
     let count = rows.as_slice().len();

@@ -1,5 +1,5 @@
 -- A query made ready over both sites' tables.
-use Rattle.std.proofs.Common.{◌≡◌, List, sym, subst, ap, ◌∙◌, Ok}
+use Rattle.std.proofs.Common.{◌≡◌, List, subst, ap, ◌∙◌, Ok}
 use Rattle.pdn_base.specs.Operators.{Rows}
 use Rattle.pdn_schema.specs.Models.{SchemaModel}
 use Rattle.pdn_schema.specs.Rows.{AreValid, union}

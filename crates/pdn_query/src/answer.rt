@@ -112,7 +112,8 @@ fn answered_rows<R: Threads + Sync, D: Deal>(
     requires root { prepared.a.root ≡ root schema.now query.now }
     requires valid_a { AreValid schema.now prepared.a.tables }
     requires valid_b { AreValid schema.now prepared.b.tables }
-    ensures { IfOk result (λ rows. rows ≡ answer schema.now (union prepared.a.tables prepared.b.tables) query.now) }
+    ensures { IfOk result (λ rows.
+        rows ≡ answer schema.now (union prepared.a.tables prepared.b.tables) query.now) }
 {
     // A file has at most 16 queries.
     if ticket >= 1 << 40 {
@@ -163,7 +164,8 @@ fn ready(
 // The refusal of a site's rows of a table.
 fn wrong_rows(alloc: Global, schema: &Schema, site: Site, table: u32, wrong: RowsErr) -> Stop
     requires { table < length schema.now.tables }
-    ensures { IsRefusal (table_of schema.now table).name (wrong_column (table_of schema.now table) wrong) (Status.BadRows site table wrong) result }
+    ensures { let t = table_of schema.now table in
+        IsRefusal t.name (wrong_column t wrong) (Status.BadRows site table wrong) result }
 {
     let named = schema.table(table);
     let Ok(column) = wrong_column(alloc, named, wrong) else {

@@ -17,7 +17,8 @@ pub fn answer_text(
     plan: &Plan,
     rows: &Rows,
 ) -> Result<Vec<u8>, Memory>
-    ensures { IfOk result (λ text. text.items ≡ answer_text query ticket plan.now.columns rows.now) }
+    ensures { IfOk result (λ text.
+        text.items ≡ answer_text query ticket plan.now.columns rows.now) }
 {
     let head = head_line(alloc, query, ticket, rows.as_slice().len())?;
     let mut text = Vec::from_slice(alloc, head.as_bytes())?;
@@ -51,7 +52,8 @@ fn put_names(out: &mut Vec<u8>, columns: &[OutColumn]) -> Result<(), Memory>
 }
 
 fn put_later_names(out: &mut Vec<u8>, columns: &[OutColumn]) -> Result<(), Memory>
-    ensures { OnOk result (out.new.items ≡ out.old.items ++ after_commas (map (λ (c : Column). c.name) columns.now)) }
+    ensures { OnOk result (out.new.items
+        ≡ out.old.items ++ after_commas (map (λ (c : Column). c.name) columns.now)) }
 {
     let Some((column, later)) = columns.split_first() else {
         return Ok(());
@@ -89,7 +91,8 @@ fn put_row(alloc: Global, out: &mut Vec<u8>, values: &[Value]) -> Result<(), Mem
 }
 
 fn put_later_values(alloc: Global, out: &mut Vec<u8>, values: &[Value]) -> Result<(), Memory>
-    ensures { OnOk result (out.new.items ≡ out.old.items ++ after_commas (map value_text values.now)) }
+    ensures { OnOk result
+        (out.new.items ≡ out.old.items ++ after_commas (map value_text values.now)) }
 {
     let Some((value, later)) = values.split_first() else {
         return Ok(());

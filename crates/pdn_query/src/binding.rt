@@ -21,7 +21,8 @@ pub fn bound(alloc: Global, schema: &Schema, query: &Query) -> Result<Plan, Stop
     ensures came { (w : WorldModel) (next : PlanModel → Script) →
         Came w w (binding schema.now query.now next) (λ plan. next plan) result }
     ensures binds { IfOk result (λ plan. IsBound schema.now query.now (Ok plan)) }
-    ensures sound { IsWritten query.now → IfOk result (λ plan. (shape schema.now plan.root).sound ≡ true) }
+    ensures sound { IsWritten query.now
+        → IfOk result (λ plan. (shape schema.now plan.root).sound ≡ true) }
 {
     match bind(alloc, schema, query) {
         Ok(plan) => Ok(plan),
