@@ -1,1 +1,12 @@
+mod Checks
+mod Solid
+mod Splits
 mod LineLaws
+mod DueLaws
+mod Cutting
+mod FieldLaws
+mod GuessLaws
+mod Holding
+mod Leading
+mod Ways
+mod TextLaws

@@ -1,15 +1,16 @@
 -- A text cut where a byte first stands.
-use Rattle.std.specs.Prelude.{◌≡◌, ℕ, List, [], ◌∷◌, ◌++◌, Option, Some, None}
-use Rattle.std.specs.List.{AllByRecursion}
+use Rattle.std.specs.Prelude.{◌≡◌, ℕ, Bool, true, not, eqb, List, [], ◌∷◌, ◌++◌, Option, Some, None}
+use Rattle.std.specs.List.{list_all}
 use Rattle.std.specs.Borrow.{Bor}
 use Rattle.pdn_view.specs.Guesses.{words}
 
-abbrev pub IsWithout : ℕ → List ℕ → Type 0
-IsWithout byte text = AllByRecursion (λ other. other ≡ byte → ⊥) text
+-- the byte doesn't stand in the text
+abbrev pub without : ℕ → List ℕ → Bool
+without byte text = list_all (λ other. not (eqb other byte)) text
 
 pub record IsCut (byte : ℕ) (text front rest : List ℕ) : Type 0 where
   pub parts : text ≡ front ++ byte ∷ rest
-  pub without : IsWithout byte front
+  pub without : without byte front ≡ true
 
 -- the words of what is left of a line, if anything is
 abbrev pub words_left : Option (Bor (List ℕ)) → List (List ℕ)

@@ -1,9 +1,9 @@
 -- What reading a text answers.
-use Rattle.std.specs.Prelude.{◌≡◌, ◌+◌, ℕ, List, [], ◌∷◌, ◌++◌, length, Result, Ok, Err}
-use Rattle.std.specs.List.{AllByRecursion, flat_map}
+use Rattle.std.specs.Prelude.{◌≡◌, ◌+◌, ℕ, Bool, true, List, [], ◌∷◌, ◌++◌, length, Result, Ok, Err}
+use Rattle.std.specs.List.{list_all, flat_map}
 use Rattle.pdn_view.specs.declared.view_err.ViewErr.{ViewErr}
 use Rattle.pdn_view.specs.declared.view_err.ViewErr.TheVariants.{At, Memory}
-use Rattle.pdn_view.specs.Cuts.{IsWithout}
+use Rattle.pdn_view.specs.Cuts.{without}
 use Rattle.pdn_view.specs.Views.{ViewWords, IsView}
 use Rattle.pdn_view.specs.declared.machine.State.{State}
 use Rattle.pdn_view.specs.declared.machine.State.TheVariants.{Closed}
@@ -16,19 +16,20 @@ ended line = line ++ 10 ∷ []
 abbrev pub ended_lines : List (List ℕ) → List ℕ
 ended_lines lines = flat_map ended lines
 
-abbrev pub NoFeed : List ℕ → Type 0
-NoFeed line = IsWithout 10 line
+-- no line feed stands in a line
+abbrev pub is_line : List ℕ → Bool
+is_line line = without 10 line
 
 -- The lines before this one begin some view's text. With this one they begin none, or the text ends inside it; and the text is no
 -- view's.
 pub record IsFirstFault (bytes : List ℕ) (number : ℕ) : Type 0 where
   pub front : List (List ℕ)
   pub rest : List ℕ
-  pub lines : AllByRecursion NoFeed front
+  pub lines : list_all is_line front ≡ true
   pub parts : bytes ≡ ended_lines front ++ rest
   pub counted : number ≡ length front + 1
   pub goes_on : (v : ViewWords) × (more : List ℕ) × IsView v × (view_text v ≡ ended_lines front ++ more)
-  pub ends : (line after : List ℕ) → NoFeed line → rest ≡ line ++ 10 ∷ after → (v : ViewWords) (more : List ℕ) → IsView v → view_text v ≡ ended_lines front ++ line ++ 10 ∷ more → ⊥
+  pub ends : (line after : List ℕ) → is_line line ≡ true → rest ≡ line ++ 10 ∷ after → (v : ViewWords) (more : List ℕ) → IsView v → view_text v ≡ ended_lines front ++ (line ++ 10 ∷ more) → ⊥
   pub none : (v : ViewWords) → IsView v → bytes ≡ view_text v → ⊥
 
 abbrev pub IsFault : List ℕ → ViewErr → Type 0

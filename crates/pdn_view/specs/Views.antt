@@ -95,9 +95,9 @@ abbrev pub IsValue : Value → Type 0
 IsValue (value.Int n) = n < 2 ^ 32
 IsValue (value.Code c) = IsCodeNumber c
 
-pub record IsDirectory (values : List Value) : Type 0 where
-  pub ascends : ascends values ≡ true
-  pub values : AllByRecursion IsValue values
+pub record IsDirectory (vs : List Value) : Type 0 where
+  pub order : ascends vs ≡ true
+  pub values : AllByRecursion IsValue vs
 
 pub record AreDirs (d : Dirs) : Type 0 where
   pub a : IsDirectory d.a

@@ -1,5 +1,5 @@
 //! The units that a view's directories call for.
-ghost use Rattle.std.specs.Prelude.{◌≡◌, ◌++◌, map, IfOk, OnOk};
+ghost use Rattle.std.specs.Prelude.{◌≡◌, ◌<◌, ◌^◌, ◌++◌, map, IfOk, OnOk};
 ghost use Rattle.pdn_view.specs.declared.due.Due.TheVariants.{Plain};
 ghost use Rattle.pdn_view.specs.Views.{counts_of, slices, all_slices, first_number, dues_of};
 
@@ -74,7 +74,8 @@ fn add_slices(dues: &mut Vec<Due>, a: &[Value], b: &[Value]) -> Result<(), Memor
         }
     }
     add_plain(dues, Site::A, &a[i..])?;
-    add_plain(dues, Site::B, &b[j..])
+    add_plain(dues, Site::B, &b[j..])?;
+    Ok(())
 }
 
 /// The units of segments with these directories, in order.
@@ -90,7 +91,8 @@ fn all_slices(alloc: Global, dirs: &[SegDirs]) -> Result<Vec<Due>, Memory>
 
 /// The number of a view's first unit: the broker's is the root.
 pub(crate) fn first_number(alloc: Global, party: Party, dirs: &[SegDirs]) -> Result<u64, Memory>
-    ensures { IfOk result (λ number. number ≡ first_number party dirs.now) }
+    ensures is { IfOk result (λ number. number ≡ first_number party dirs.now) }
+    ensures small { IfOk result (λ number. number < 2 ^ 63) }
 {
     match party {
         Party::A | Party::B => Ok(0),

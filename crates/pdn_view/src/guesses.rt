@@ -8,7 +8,7 @@ ghost use Rattle.pdn_view.specs.Cuts.{words_left};
 use crate::due::{Counts, Due};
 use crate::machine::Values;
 use crate::view::Party;
-use crate::words::{behind, first_word, number_of, party_in, value_in, word, word_in};
+use crate::words::{behind, front, number_of, party_in, rest, value_in, word, word_in};
 use pdn_base::{Memory, Value};
 use pdn_gmw::GateView;
 use std::alloc::Global;
@@ -51,17 +51,16 @@ fn ascends_from(first: &Value, values: &[Value]) -> bool
 
 // The values that the words of what is left of a line seem to be.
 fn values_in(alloc: Global, text: Option<&[u8]>) -> Result<Option<Values>, Memory>
-    ensures { IfOk result (λ values. values ≡ values_in (words_left text)) }
+    ensures { IfOk result (λ values. values ≡ values_in (words_left text.entry)) }
 {
     let mut values = Vec::new(alloc);
-    let mut rest = text;
-    while let Some(text) = rest {
-        let (word, more) = first_word(text);
-        let Some(value) = value_in(word) else {
+    let mut left = text;
+    while let Some(text) = left {
+        let Some(value) = value_in(front(text)) else {
             return Ok(None);
         };
         values.push(value)?;
-        rest = more;
+        left = rest(text);
     }
     Ok(Some(Values { values }))
 }

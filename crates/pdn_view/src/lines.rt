@@ -1,5 +1,5 @@
 //! The lines of a view, as they are written.
-ghost use Rattle.std.specs.Prelude.{◌≡◌, ◌++◌, ◌∷◌, codes, decimal, IfOk, OnOk};
+ghost use Rattle.std.specs.Prelude.{◌≡◌, ◌++◌, ◌∷◌, [], codes, decimal, OnOk};
 ghost use Rattle.std.specs.List.{flat_map};
 ghost use Rattle.pdn_base.specs.Texts.{site_text};
 ghost use Rattle.pdn_view.specs.Lines.{party_text, value_text, word_text, spaced, head_line, segment_line, counts_text, unit_line, word_line, gate_line, end_line};
@@ -99,7 +99,7 @@ fn put_values(alloc: Global, out: &mut Vec<u8>, values: &[Value]) -> Result<(), 
 }
 
 /// The line of a site's directory of a segment.
-#[tactic(auto, using(crate::proofs::LineLaws::segment_is))]
+#[tactic(auto, using(crate::proofs::LineLaws::values_are))]
 pub fn put_segment(
     alloc: Global,
     out: &mut Vec<u8>,
@@ -184,20 +184,24 @@ pub fn put_word_line(out: &mut Vec<u8>, mark: u8, word: &Word) -> Result<(), Mem
     put_word(out, word)
 }
 
+// A word, behind a blank.
+fn put_next_word(out: &mut Vec<u8>, word: &Word) -> Result<(), Memory>
+    ensures { OnOk result (out.new.items ≡ out.old.items ++ 32 ∷ word_text word.now) }
+{
+    out.push(b' ')?;
+    put_word(out, word)
+}
+
 /// The line of an And gate.
 pub fn put_gate_line(out: &mut Vec<u8>, gate: &GateView) -> Result<(), Memory>
     ensures { OnOk result (out.new.items ≡ out.old.items ++ spaced (gate_line gate.now)) }
 {
-    put(out, b"g ".as_slice())?;
-    put_word(out, &gate.a)?;
-    out.push(b' ')?;
-    put_word(out, &gate.b)?;
-    out.push(b' ')?;
-    put_word(out, &gate.c)?;
-    out.push(b' ')?;
-    put_word(out, &gate.d)?;
-    out.push(b' ')?;
-    put_word(out, &gate.e)
+    out.push(b'g')?;
+    put_next_word(out, &gate.a)?;
+    put_next_word(out, &gate.b)?;
+    put_next_word(out, &gate.c)?;
+    put_next_word(out, &gate.d)?;
+    put_next_word(out, &gate.e)
 }
 
 /// A view's last line.

@@ -1,7 +1,8 @@
 //! The reading of a view as a machine: what may come next after the lines so far, and where a line leads.
 ghost use Rattle.std.specs.Prelude.{◌≡◌, ◌+◌, ◌∷◌, ◌++◌, ◌<◌, ◌^◌, ◌≤◌, [], codes, length, Some, None, IfOk, OnOk, MatchBool, MatchOption, List};
 ghost use Rattle.pdn_view.specs.declared.due.Due.{Due};
-ghost use Rattle.pdn_view.specs.Views.{part_of};
+ghost use Rattle.pdn_view.specs.declared.due.Due.TheVariants.{Outputs};
+ghost use Rattle.pdn_view.specs.Views.{part_of, words_of};
 ghost use Rattle.pdn_view.specs.Lines.{head_line, segment_line, unit_line, own_mark, other_mark};
 ghost use Rattle.pdn_view.specs.Guesses.{head_in, segment_in, counts_in};
 ghost use Rattle.pdn_view.specs.Machine.{begins, body_of, with_dirs, next, next_unit, opens, begun, kept, closed, onto, view_of, add_own, add_other, add_gate, add_mask, lack, added, next_word, word_of, gate_of, checked, half, whole};
@@ -25,9 +26,9 @@ pub struct Values {
 
 impl Model for Values {
     ghost use Rattle.std.specs.Prelude.{List};
-    ghost use Rattle.pdn_base.specs.declared.value.Value.{Value};
+    ghost use Rattle.pdn_base.specs.declared.value.Value.{Value as Cell};
 
-    ghost Value = { List Value };
+    ghost Value = { List Cell };
 
     ghost view = { λ v. v.values.items };
 }
@@ -229,16 +230,29 @@ impl Begun {
     fn into_part(self) -> UnitPart
         ensures { part_of result ≡ record { due = self.due; words = kept self.due self.words } }
     {
-        match self.due {
-            Due::Plain(site, value) => UnitPart::Plain(site, value),
-            Due::Secure(value) => UnitPart::Secure(value, self.words),
-            Due::Root => UnitPart::Root(self.words),
-            Due::Outputs => {
-                let UnitView { own, other, .. } = self.words;
-                UnitPart::RootOut(own, other)
-            }
-        }
+        let Begun { due, words, .. } = self;
+        part(&due, words)
     }
+}
+
+// What a view has of a unit.
+fn part(due: &Due, words: UnitView) -> UnitPart
+    ensures { part_of result ≡ record { due = due.now; words = kept due.now words } }
+{
+    match due {
+        Due::Plain(site, value) => UnitPart::Plain(*site, *value),
+        Due::Secure(value) => UnitPart::Secure(*value, words),
+        Due::Root => UnitPart::Root(words),
+        Due::Outputs => outputs(words),
+    }
+}
+
+// The root's outputs.
+fn outputs(words: UnitView) -> UnitPart
+    ensures { part_of result ≡ record { due = Outputs; words = words_of words.own words.other } }
+{
+    let UnitView { own, other, .. } = words;
+    UnitPart::RootOut(own, other)
 }
 
 // ---- lines

@@ -1,5 +1,6 @@
 //! A view's text.
 ghost use Rattle.std.specs.Prelude.{◌≡◌, ◌++◌, ◌∷◌, ◌+◌, ◌<◌, ◌^◌, [], map, length, IfOk, OnOk};
+ghost use Rattle.pdn_base.specs.declared.site.Site.TheVariants.{A, B};
 ghost use Rattle.pdn_view.specs.declared.due.Due.TheVariants.{Outputs};
 ghost use Rattle.pdn_view.specs.Views.{part_of, words_of, IsRun, dir_of};
 ghost use Rattle.pdn_view.specs.Lines.{word_line, gate_line, segment_line, segment_lines, unit_line, part_lines, parts_lines, lines_text, line_text, view_text};
@@ -50,13 +51,25 @@ fn put_segment_line(
     Ok(())
 }
 
+// Both lines of a segment.
+fn put_segment_lines(
+    alloc: Global,
+    out: &mut Vec<u8>,
+    number: usize,
+    dirs: &SegDirs,
+) -> Result<(), Memory>
+    ensures { OnOk result (out.new.items ≡ out.old.items ++ lines_text (segment_line number A dirs.now.a ∷ segment_line number B dirs.now.b ∷ [])) }
+{
+    put_segment_line(alloc, out, number, Site::A, dirs)?;
+    put_segment_line(alloc, out, number, Site::B, dirs)
+}
+
 // Both lines of each segment.
 fn put_segments(alloc: Global, out: &mut Vec<u8>, dirs: &[SegDirs]) -> Result<(), Memory>
     ensures { OnOk result (out.new.items ≡ out.old.items ++ lines_text (segment_lines 0 dirs.now)) }
 {
     for i in 0..dirs.len() {
-        put_segment_line(alloc, out, i, Site::A, &dirs[i])?;
-        put_segment_line(alloc, out, i, Site::B, &dirs[i])?;
+        put_segment_lines(alloc, out, i, &dirs[i])?;
     }
     Ok(())
 }

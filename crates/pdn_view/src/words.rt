@@ -1,42 +1,57 @@
 //! The words of a line, and what they seem to be.
-ghost use Rattle.std.specs.Prelude.{◌≡◌, ◌≤◌, ◌<◌, ◌^◌, ◌∷◌, drop, length, IsTrue, MatchOption, eqb};
+ghost use Rattle.std.specs.Prelude.{◌≡◌, ◌≤◌, [], drop, get_or, length, IsTrue, MatchOption, true};
 ghost use Rattle.std.specs.Char.{is_ascii_digit};
 ghost use Rattle.std.specs.List.{list_all};
-ghost use Rattle.std.specs.Option.{option_copied};
-ghost use Rattle.std.proofs.Common.{position};
 ghost use Rattle.pdn_base.specs.Codes.{read_code};
 ghost use Rattle.pdn_base.specs.Numbers.{value_of};
 ghost use Rattle.pdn_base.specs.declared.value.Value.TheVariants as int_value;
 ghost use Rattle.pdn_view.specs.Guesses.{words, word, mapped, small, number_of, value_in, word_in, party_in, unquoted};
-ghost use Rattle.pdn_view.specs.Cuts.{IsWithout, IsCut, words_left};
+ghost use Rattle.pdn_view.specs.Cuts.{without, IsCut, words_left};
 
 use crate::view::Party;
 use pdn_base::{Code, Value, Word};
 
-// Where a byte first stands.
-fn place_of(text: &[u8], byte: u8) -> Option<usize>
-    ensures { result ≡ position (λ other. eqb other byte) text.now }
-{
-    text.iter().position(|other| *other == byte)
-}
-
 /// What stands before the first such byte, and what stands behind it.
 pub fn cut(text: &[u8], byte: u8) -> Option<(&[u8], &[u8])>
-    ensures { MatchOption result (IsWithout byte text.now) (λ p. IsCut byte text.now p.0.now p.1.now) }
+    ensures { MatchOption result (without byte text.now ≡ true) (λ p. IsCut byte text.now p.0.now p.1.now) }
 {
-    match place_of(text, byte) {
-        Some(end) => Some((&text[..end], &text[end + 1..])),
+    for i in 0..text.len() {
+        if text[i] == byte {
+            return Some((&text[..i], &text[i + 1..]));
+        }
+    }
+    None
+}
+
+/// The first word of what is left of a line.
+#[tactic(auto, using(crate::proofs::Cutting::front_cut, crate::proofs::Cutting::front_alone))]
+pub fn front(text: &[u8]) -> &[u8]
+    ensures { result.now ≡ get_or (words text.now) 0 [] }
+{
+    match cut(text, b' ') {
+        Some((word, _)) => word,
+        None => text,
+    }
+}
+
+/// What is left behind the first word, if anything is.
+#[tactic(auto, using(crate::proofs::Cutting::rest_cut, crate::proofs::Cutting::rest_alone))]
+pub fn rest(text: &[u8]) -> Option<&[u8]>
+    ensures { words_left result ≡ drop 1 (words text.now) }
+{
+    match cut(text, b' ') {
+        Some((_, rest)) => Some(rest),
         None => None,
     }
 }
 
-/// The first word of what is left of a line, and what is left behind it.
-pub fn first_word(text: &[u8]) -> (&[u8], Option<&[u8]>)
-    ensures { words text.now ≡ result.0.now ∷ words_left result.1 }
+// What is left behind one word more.
+fn behind_one(left: Option<&[u8]>) -> Option<&[u8]>
+    ensures { words_left result ≡ drop 1 (words_left left.entry) }
 {
-    match cut(text, b' ') {
-        Some((word, rest)) => (word, Some(rest)),
-        None => (text, None),
+    match left {
+        Some(text) => rest(text),
+        None => None,
     }
 }
 
@@ -44,14 +59,11 @@ pub fn first_word(text: &[u8]) -> (&[u8], Option<&[u8]>)
 pub fn behind(line: &[u8], count: usize) -> Option<&[u8]>
     ensures { words_left result ≡ drop count (words line.now) }
 {
-    let mut rest = Some(line);
+    let mut left = Some(line);
     for _ in 0..count {
-        rest = match rest {
-            Some(text) => first_word(text).1,
-            None => None,
-        };
+        left = behind_one(left);
     }
-    rest
+    left
 }
 
 /// A line's word at a place, counted from 0; empty where it has fewer.
@@ -59,7 +71,7 @@ pub fn word(line: &[u8], place: usize) -> &[u8]
     ensures { result.now ≡ word line.now place }
 {
     match behind(line, place) {
-        Some(text) => first_word(text).0,
+        Some(text) => front(text),
         None => &[],
     }
 }
