@@ -1,13 +1,15 @@
 -- The lines of a view lead to the view.
 use Rattle.std.proofs.Common.{◌≡◌, ◌<◌, ◌≤◌, ◌^◌, ℕ, zero, suc, ◌+◌, ◌-◌, Bool, true, false, cond, ltb, List, [], ◌∷◌, ◌++◌, map, length, replicate, Option, Some, None, Ordering, Less, Equal, Greater, refl, sym, ap, subst, ◌∙◌, append_assoc, arith, length-append}
-use Rattle.std.specs.Prelude.{codes, nat_lt}
+use Rattle.std.specs.Prelude.{codes, decimal, nat_lt}
 use Rattle.std.specs.Str.{bytes_eq}
 use Rattle.std.specs.List.{AllByRecursion, flat_map, list_all}
 use Rattle.std.proofs.lemmas.Bool.{lt-ltb, le-ltb, ltb-true, ltb-false}
 use Rattle.std.proofs.lemmas.List.{append-nil, map-append, length-replicate}
 use Rattle.std.proofs.lemmas.List.Concat.{flat_map-cons}
 use Rattle.pdn_base.specs.declared.value.Value.{Value}
+use Rattle.pdn_base.specs.declared.site.Site.{Site}
 use Rattle.pdn_base.specs.declared.site.Site.TheVariants.{A, B}
+use Rattle.pdn_base.specs.Texts.{site_text}
 use Rattle.pdn_base.specs.Values.{value_cmp}
 use Rattle.pdn_gmw.specs.declared.views.GateView.{GateView}
 use Rattle.pdn_gmw.specs.Shares.{UnitWords}
@@ -22,7 +24,7 @@ use Rattle.pdn_view.specs.declared.machine.Lack.TheVariants.{Own, Other, Gates, 
 use Rattle.pdn_view.specs.declared.machine.State.{State}
 use Rattle.pdn_view.specs.declared.machine.State.TheVariants.{Begin, Segments, Half, Words, Closed}
 use Rattle.pdn_view.specs.Views.{Part, ViewWords, words_of, counts_of, next_slice, slices_from, slices, all_slices, dues_of, first_number, AreDirs, IsDirectory, IsValue, IsWord, IsGate, AreWords, AreCounts, Fits, IsPart, IsView}
-use Rattle.pdn_view.specs.Lines.{Line, spaced, head_line, segment_line, segment_lines, unit_line, word_line, gate_line, end_line, own_mark, other_mark, words_lines, part_lines, parts_lines, view_lines}
+use Rattle.pdn_view.specs.Lines.{Line, value_text, counts_text, spaced, head_line, segment_line, segment_lines, unit_line, word_line, gate_line, end_line, own_mark, other_mark, words_lines, part_lines, parts_lines, view_lines}
 use Rattle.pdn_view.specs.Parts.{Opening, Body, Begun}
 use Rattle.pdn_view.specs.Guesses.{mapped, word, head_in, segment_in, counts_in, word_in, gate_in}
 use Rattle.pdn_view.specs.Machine.{checked, opening, begins, with_dirs, body_of, view_of, kept, closed, begun, onto, opens, next_unit, word_of, gate_of, with_words, add_own, add_other, add_gate, add_mask, lack, added, lacking, next_word, half, whole, next, onward, runs}
@@ -57,8 +59,8 @@ head_leads party ticket h =
     ap (mapped (λ (x : Party × ℕ). Segments (opening x)))
       (checked_same (λ (x : Party × ℕ). head_line x.0 x.1) (spaced (head_line party ticket)) (head_in (spaced (head_line party ticket))) (party, ticket) (head_again party ticket h) refl)
 
-first_of_segment : (number : ℕ) (site : _) (values : List Value) → AllByRecursion IsValue values → bytes_eq (word (spaced (segment_line number site values)) 0) (codes "segment") ≡ true
-first_of_segment number site values h = ap (λ (w : List ℕ). bytes_eq w (codes "segment")) (word_of_line (codes "segment") _ 0 (solid_segment number site values h))
+first_of_segment : (number : ℕ) (site : Site) (values : List Value) → AllByRecursion IsValue values → bytes_eq (word (spaced (segment_line number site values)) 0) (codes "segment") ≡ true
+first_of_segment number site values h = ap (λ (w : List ℕ). bytes_eq w (codes "segment")) (word_of_line (codes "segment") (decimal number ∷ site_text site ∷ map value_text values) 0 (solid_segment number site values h))
 
 half_leads : (o : Opening) (a : List Value) → IsDirectory a → next (Segments o) (spaced (segment_line (length o.dirs) A a)) ≡ Some (Half o a)
 half_leads o a h =
@@ -82,8 +84,12 @@ segments_lead o (d ∷ ds) h =
     let rest : runs (Segments after) (map spaced (segment_lines (length o.dirs + 1) ds)) ≡ Some (Segments (with_all after ds)) =
       ap (λ (n : ℕ). runs (Segments after) (map spaced (segment_lines n ds))) len ∙ segments_lead after ds h.1 in
     let all : with_all after ds ≡ with_all o (d ∷ ds) = ap (λ (xs : List Dirs). record { party = o.party; ticket = o.ticket; dirs = xs }) (append_assoc o.dirs (d ∷ []) ds) in
-    runs_first (Segments o) (Half o d.a) _ _ _ (half_leads o d.a h.0.a)
-      (runs_first (Half o d.a) (Segments after) _ _ _ (whole_leads o d.a d.b h.0.b) (rest ∙ ap (λ (x : Opening). Some (Segments x)) all))
+    let first : List ℕ = spaced (segment_line (length o.dirs) A d.a) in
+    let second : List ℕ = spaced (segment_line (length o.dirs) B d.b) in
+    let others : List (List ℕ) = map spaced (segment_lines (length o.dirs + 1) ds) in
+    let end : State = Segments (with_all o (d ∷ ds)) in
+    runs_first (Segments o) (Half o d.a) end first (second ∷ others) (half_leads o d.a h.0.a)
+      (runs_first (Half o d.a) (Segments after) end second others (whole_leads o d.a d.b h.0.b) (rest ∙ ap (λ (x : Opening). Some (Segments x)) all))
 
 -- ---- the words of a unit
 
@@ -214,10 +220,10 @@ pub between_units : (b : Body) (g : Begun) → lack g ≡ Nothing → Between (W
 between_units b g is = record { on = λ line e. ap (λ (l : Lack). lacking l b g line) is }
 
 no_segment : (number : ℕ) (due : Due) (c : Counts) → HasValue due → bytes_eq (word (spaced (unit_line number due c)) 0) (codes "segment") ≡ false
-no_segment number (Plain site v) c h = ap (λ (w : List ℕ). bytes_eq w (codes "segment")) (word_of_line (codes "unit") _ 0 (solid_unit number (Plain site v) c h))
-no_segment number (Secure v) c h = ap (λ (w : List ℕ). bytes_eq w (codes "segment")) (word_of_line (codes "unit") _ 0 (solid_unit number (Secure v) c h))
-no_segment number Root c h = ap (λ (w : List ℕ). bytes_eq w (codes "segment")) (word_of_line (codes "unit") _ 0 (solid_unit number Root c h))
-no_segment number Outputs c h = ap (λ (w : List ℕ). bytes_eq w (codes "segment")) (word_of_line (codes "root") _ 0 (solid_unit number Outputs c h))
+no_segment number (Plain site v) c h = ap (λ (w : List ℕ). bytes_eq w (codes "segment")) (word_of_line (codes "unit") (decimal number ∷ codes "plain" ∷ site_text site ∷ value_text v ∷ []) 0 (solid_unit number (Plain site v) c h))
+no_segment number (Secure v) c h = ap (λ (w : List ℕ). bytes_eq w (codes "segment")) (word_of_line (codes "unit") (decimal number ∷ codes "secure" ∷ value_text v ∷ counts_text c) 0 (solid_unit number (Secure v) c h))
+no_segment number Root c h = ap (λ (w : List ℕ). bytes_eq w (codes "segment")) (word_of_line (codes "unit") (decimal number ∷ codes "root" ∷ counts_text c) 0 (solid_unit number Root c h))
+no_segment number Outputs c h = ap (λ (w : List ℕ). bytes_eq w (codes "segment")) (word_of_line (codes "root") (decimal number ∷ codes "words" ∷ decimal c.own ∷ []) 0 (solid_unit number Outputs c h))
 
 unit_leads : (s : State) (b : Body) (p : Part) (todo : List Due) → Between s b → b.todo ≡ p.due ∷ todo → HasValue p.due → IsPart p
     → next s (spaced (unit_line b.number p.due (counts_of p.words))) ≡ Some (Words (onto b todo) (begun p.due (counts_of p.words)))
@@ -264,7 +270,7 @@ parts_lead (p ∷ ps) s b on is h parts =
     record {
       state = rest.state;
       body = rest.body;
-      leads = ap (runs s) both ∙ runs_on s (Words (onto b todo) g) rest.state _ _ one rest.leads;
+      leads = ap (runs s) both ∙ runs_on s (Words (onto b todo) g) rest.state (map spaced (part_lines b.number p)) (map spaced (parts_lines (b.number + 1) ps)) one rest.leads;
       on = rest.on;
       none = rest.none;
       is = rest.is ∙ ap (λ (us : List Part). record { party = b.party; ticket = b.ticket; dirs = b.dirs; units = us }) units;
@@ -275,7 +281,7 @@ ends_lead s b on none = on.on (spaced end_line) refl ∙ ap (λ (ds : List Due).
 
 -- ---- the values of units
 
-plain_valued : (site : _) (vs : List Value) → AllByRecursion IsValue vs → AllByRecursion HasValue (map (Plain site) vs)
+plain_valued : (site : Site) (vs : List Value) → AllByRecursion IsValue vs → AllByRecursion HasValue (map (Plain site) vs)
 plain_valued site [] h = tt
 plain_valued site (v ∷ vs) h = (h.0, plain_valued site vs h.1)
 

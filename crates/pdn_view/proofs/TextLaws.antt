@@ -91,7 +91,7 @@ begins_with [] (y ∷ ys) m z e h = absurd (omega (arith, ap length e, length-ap
 begins_with (x ∷ xs) (y ∷ ys) m z e h =
     let both = tail_is x y (xs ++ z ∷ []) (ys ++ m) e in
     let more = begins_with xs ys m z both.1 h in
-    (more.0, ap (λ (a : _). a ∷ xs) both.0 ∙ ap (λ (as : List _). y ∷ as) more.1)
+    (more.0, ap (λ (a : _). a ∷ xs) both.0 ∙ ap (λ (bs : List _). y ∷ bs) more.1)
 
 -- lines that a view's text begins with are its first lines
 view_front : (v : ViewWords) (front : List (List ℕ)) (more : List ℕ) → IsView v → list_all is_line front ≡ true → view_text v ≡ ended_lines front ++ more → (rest : List (List ℕ)) × (map spaced (view_lines v) ≡ front ++ rest)
@@ -195,7 +195,7 @@ whole_is bytes s rest n v r none h e =
 
 -- the text ends before a view does, or inside a line
 pub fault_end : (bytes : List ℕ) (s : State) (rest : List ℕ) (n : ℕ) → Read bytes s rest n → without 10 rest ≡ true → ((v : ViewWords) → s ≡ Closed v → rest ≡ [] → ⊥) → IsFirstFault bytes n
-fault_end bytes s rest n r none open =
+fault_end bytes s rest n r none unread =
     let b = front_begins r.front s r.leads in
     record {
       front = r.front;
@@ -205,7 +205,7 @@ fault_end bytes s rest n r none open =
       counted = r.counted;
       goes_on = (b.view, b.more, b.is, b.text);
       ends = λ other after whole e v past h text. no_line rest other after none e;
-      none = λ v h text. let w = whole_is bytes s rest n v r none h text in open v w.0 w.1;
+      none = λ v h text. let w = whole_is bytes s rest n v r none h text in unread v w.0 w.1;
     }
 
 -- the text of a view
