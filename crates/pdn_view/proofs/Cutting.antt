@@ -16,7 +16,7 @@ pub cut_here : (text : List ℕ) (i byte : ℕ) → i < length text → get_or t
 cut_here text i byte lt is =
     let next : suc i ≡ i + 1 = omega arith in
     sym (take-append-drop i text) ∙ ap (λ (t : List ℕ). take i text ++ t)
-      (drop_first text i lt ∙ ap (λ (b : ℕ). b ∷ drop (suc i) text) is ∙ ap (λ (k : ℕ). byte ∷ drop k text) next ∙ ap (λ (t : List ℕ). byte ∷ t) (sym (take_rest text (i + 1))))
+    (drop_first text i lt ∙ ap (λ (b : ℕ). b ∷ drop (suc i) text) is ∙ ap (λ (k : ℕ). byte ∷ drop k text) next ∙ ap (λ (t : List ℕ). byte ∷ t) (sym (take_rest text (i + 1))))
 
 pub cut_is : (byte : ℕ) (text : List ℕ) (i : ℕ) → i < length text → get_or text i 0 ≡ byte → without byte (take i text) ≡ true
     → IsCut byte text (take i text) (take (length text - (i + 1)) (drop (i + 1) text))

@@ -92,12 +92,12 @@ pub unit_again : (number : ℕ) (due : Due) (c : Counts) → HasValue due → Fi
 unit_again number (Plain site v) c val fits h = ap Some (sym fits)
 unit_again number (Secure v) c val fits h =
     let at : (place : ℕ) → word (spaced (unit_line number (Secure v) c)) place ≡ get_or (unit_line number (Secure v) c) place [] =
-      λ place. word_of_line (codes "unit") (decimal number ∷ codes "secure" ∷ value_text v ∷ counts_text c) place (solid_unit number (Secure v) c val) in
+    λ place. word_of_line (codes "unit") (decimal number ∷ codes "secure" ∷ value_text v ∷ counts_text c) place (solid_unit number (Secure v) c val) in
     let same : unmasked c ≡ c = ap (λ (m : ℕ). record { own = c.own; other = c.other; ands = c.ands; masks = m }) (sym fits) in
     ap (mapped unmasked) (counts_again 5 (spaced (unit_line number (Secure v) c)) c h (at 5) (at 7) (at 9) (at 11)) ∙ ap Some same
 unit_again number Root c val fits h =
     let at : (place : ℕ) → word (spaced (unit_line number Root c)) place ≡ get_or (unit_line number Root c) place [] =
-      λ place. word_of_line (codes "unit") (decimal number ∷ codes "root" ∷ counts_text c) place (solid_unit number Root c val) in
+    λ place. word_of_line (codes "unit") (decimal number ∷ codes "root" ∷ counts_text c) place (solid_unit number Root c val) in
     counts_again 4 (spaced (unit_line number Root c)) c h (at 4) (at 6) (at 8) (at 10)
 unit_again number Outputs c val fits h =
     let three : word (spaced (unit_line number Outputs c)) 3 ≡ decimal c.own = word_of_line (codes "root") (decimal number ∷ codes "words" ∷ decimal c.own ∷ []) 3 (solid_unit number Outputs c val) in
@@ -111,7 +111,7 @@ unfolding gate_in
 gate_line_again g h =
     let line : List ℕ = spaced (gate_line g) in
     let at : (place : ℕ) → word line place ≡ get_or (gate_line g) place [] =
-      λ place. word_of_line (codes "g") (word_text g.a ∷ word_text g.b ∷ word_text g.c ∷ word_text g.d ∷ word_text g.e ∷ []) place (solid_gate_line g) in
+    λ place. word_of_line (codes "g") (word_text g.a ∷ word_text g.b ∷ word_text g.c ∷ word_text g.d ∷ word_text g.e ∷ []) place (solid_gate_line g) in
     let one : word line 1 ≡ word_text g.a = at 1 in
     let two : word line 2 ≡ word_text g.b = at 2 in
     let three : word line 3 ≡ word_text g.c = at 3 in
@@ -168,9 +168,10 @@ unit_fits (Secure v) line c e =
 unit_fits Root line c e = (tt, counts_fit 4 line c e)
 unit_fits Outputs line c e =
     let m = mapped_some outputs (number_of (word line 3)) c e in
-    let n = number_fits (word line 3) m.0 m.1 in
-    (subst (λ (x : Counts). x ≡ record { own = x.own; other = x.own; ands = 0; masks = 0 }) m.2 refl,
-      subst AreCounts m.2 (record { own = n; other = n; ands = omega arith; masks = omega arith }))
+    let n = number_fits (word line 3) m.0 m.1 in (
+      subst (λ (x : Counts). x ≡ record { own = x.own; other = x.own; ands = 0; masks = 0 }) m.2 refl,
+      subst AreCounts m.2 (record { own = n; other = n; ands = omega arith; masks = omega arith }),
+    )
 
 pub gate_fits : (line : List ℕ) (g : GateView) → gate_in line ≡ Some g → IsGate g
 unfolding gate_in

@@ -128,14 +128,14 @@ holds_begin line s e =
     let m = mapped_some (λ (h : Party × ℕ). Segments (opening h)) _ s e in
     let c = checked_ok (λ (h : Party × ℕ). head_line h.0 h.1) line (head_in line) m.0 m.1 in
     subst (λ (t : State). Holds t (line ∷ [])) m.2
-      (record { ticket = head_fits line m.0 c.0; dirs = tt }, ap (λ (l : List ℕ). l ∷ []) (sym c.1))
+    (record { ticket = head_fits line m.0 c.0; dirs = tt }, ap (λ (l : List ℕ). l ∷ []) (sym c.1))
 
 holds_half : (o : Opening) (lines : List (List ℕ)) (line : List ℕ) (s : State) → Holds (Segments o) lines → half o line ≡ Some s → Holds s (lines ++ line ∷ [])
 holds_half o lines line s h e =
     let m = mapped_some (Half o) _ s e in
     let c = checked_ok (segment_line (length o.dirs) A) line (segment_in line) m.0 m.1 in
     subst (λ (t : State). Holds t (lines ++ line ∷ [])) m.2
-      (h.0, segment_fits line m.0 c.0, one_more (opened_lines o.party o.ticket o.dirs) (segment_line (length o.dirs) A m.0) lines line h.1 c.1)
+    (h.0, segment_fits line m.0 c.0, one_more (opened_lines o.party o.ticket o.dirs) (segment_line (length o.dirs) A m.0) lines line h.1 c.1)
 
 pub all_more : {X : Type 0} (P : X → Type 0) (xs : List X) (x : X) → AllByRecursion P xs → P x → AllByRecursion P (xs ++ x ∷ [])
 all_more P [] x h k = (k, tt)
@@ -147,14 +147,15 @@ holds_whole o a lines line s h e =
     let c = checked_ok (segment_line (length o.dirs) B) line (segment_in line) m.0 m.1 in
     let opened : List Line = opened_lines o.party o.ticket o.dirs in
     let more : lines ++ line ∷ [] ≡ map spaced ((opened ++ segment_line (length o.dirs) A a ∷ []) ++ segment_line (length o.dirs) B m.0 ∷ []) =
-      one_more (opened ++ segment_line (length o.dirs) A a ∷ []) (segment_line (length o.dirs) B m.0) lines line h.2 c.1 in
+    one_more (opened ++ segment_line (length o.dirs) A a ∷ []) (segment_line (length o.dirs) B m.0) lines line h.2 c.1 in
     let zero_more : length o.dirs ≡ 0 + length o.dirs = omega arith in
     let both : opened ++ segment_line (length o.dirs) A a ∷ segment_line (length o.dirs) B m.0 ∷ [] ≡ opened_lines o.party o.ticket (o.dirs ++ record { a = a; b = m.0 } ∷ []) =
-      ap (λ (n : ℕ). opened ++ segment_line n A a ∷ segment_line n B m.0 ∷ []) zero_more
-      ∙ ap (λ (ls : List Line). head_line o.party o.ticket ∷ ls) (sym (segments_more 0 o.dirs (record { a = a; b = m.0 }))) in
-    subst (λ (t : State). Holds t (lines ++ line ∷ [])) m.2
-      (record { ticket = h.0.ticket; dirs = all_more AreDirs o.dirs (record { a = a; b = m.0 }) h.0.dirs (record { a = h.1; b = segment_fits line m.0 c.0 }) },
-        more ∙ ap (map spaced) (append_assoc opened (segment_line (length o.dirs) A a ∷ []) (segment_line (length o.dirs) B m.0 ∷ []) ∙ both))
+    ap (λ (n : ℕ). opened ++ segment_line n A a ∷ segment_line n B m.0 ∷ []) zero_more
+    ∙ ap (λ (ls : List Line). head_line o.party o.ticket ∷ ls) (sym (segments_more 0 o.dirs (record { a = a; b = m.0 }))) in
+    subst (λ (t : State). Holds t (lines ++ line ∷ [])) m.2 (
+      record { ticket = h.0.ticket; dirs = all_more AreDirs o.dirs (record { a = a; b = m.0 }) h.0.dirs (record { a = h.1; b = segment_fits line m.0 c.0 }) },
+      more ∙ ap (map spaced) (append_assoc opened (segment_line (length o.dirs) A a ∷ []) (segment_line (length o.dirs) B m.0 ∷ []) ∙ both),
+    )
 
 -- ---- units
 
@@ -176,8 +177,14 @@ all_none (x ∷ xs) h = absurd (omega arith)
 
 nothing_filled : (c : Counts) → Filling c (words_of [] [])
 nothing_filled c = record {
-  own = omega arith; other = omega arith; gates = omega arith; masks = omega arith;
-  first = λ _. (refl, refl, refl); second = λ _. (refl, refl); third = λ _. refl }
+  own = omega arith;
+  other = omega arith;
+  gates = omega arith;
+  masks = omega arith;
+  first = λ _. (refl, refl, refl);
+  second = λ _. (refl, refl);
+  third = λ _. refl;
+}
 
 no_words : AreWords (words_of [] [])
 no_words = record { own = tt; other = tt; gates = tt; masks = tt }
@@ -188,10 +195,11 @@ holds_end b lines line s h none e =
     let c = cond_some (bytes_eq (spaced end_line) line) (Some (Closed (view_of b))) s e in
     let is : Closed (view_of b) ≡ s = cc (c.1) in
     let dues : map (λ (p : Part). p.due) b.units ≡ dues_of b.party b.dirs =
-      sym (append-nil (map (λ (p : Part). p.due) b.units)) ∙ ap (λ (ds : List Due). map (λ (p : Part). p.due) b.units ++ ds) (sym none) ∙ h.dues in
-    subst (λ (t : State). Holds t (lines ++ line ∷ [])) is
-      (record { ticket = h.ticket; dirs = h.dirs; units = h.units; dues = dues },
-        one_more (units_lines b) end_line lines line h.lines (same_bytes (spaced end_line) line c.0))
+    sym (append-nil (map (λ (p : Part). p.due) b.units)) ∙ ap (λ (ds : List Due). map (λ (p : Part). p.due) b.units ++ ds) (sym none) ∙ h.dues in
+    subst (λ (t : State). Holds t (lines ++ line ∷ [])) is (
+      record { ticket = h.ticket; dirs = h.dirs; units = h.units; dues = dues },
+      one_more (units_lines b) end_line lines line h.lines (same_bytes (spaced end_line) line c.0),
+    )
 
 holds_open : (b : Body) (due : Due) (todo : List Due) (lines : List (List ℕ)) (line : List ℕ) (s : State) → IsBody b lines → b.todo ≡ due ∷ todo → opens b (due ∷ todo) line ≡ Some s → Holds s (lines ++ line ∷ [])
 holds_open b due todo lines line s h is e =
@@ -254,11 +262,11 @@ unit_closes b g lines h all =
     let first : ℕ = first_number b.party b.dirs in
     let opened : List Line = opened_lines b.party b.ticket b.dirs in
     let here : unit_line (first + length b.units) g.due g.want ∷ words_lines g.due g.words ≡ part_lines (first + length b.units) p =
-      ap (λ (c : Counts). unit_line (first + length b.units) g.due c ∷ words_lines g.due g.words) (sym all) ∙ ap (part_lines (first + length b.units)) (sym is) in
+    ap (λ (c : Counts). unit_line (first + length b.units) g.due c ∷ words_lines g.due g.words) (sym all) ∙ ap (part_lines (first + length b.units)) (sym is) in
     let len : length (b.units ++ p ∷ []) ≡ length b.units + 1 = length-append b.units (p ∷ []) in
     let dues : map (λ (q : Part). q.due) (b.units ++ p ∷ []) ++ b.todo ≡ dues_of b.party b.dirs =
-      ap (λ (ds : List Due). ds ++ b.todo) (map-append (λ (q : Part). q.due) b.units (p ∷ []))
-      ∙ append_assoc (map (λ (q : Part). q.due) b.units) (g.due ∷ []) b.todo ∙ h.dues in
+    ap (λ (ds : List Due). ds ++ b.todo) (map-append (λ (q : Part). q.due) b.units (p ∷ []))
+    ∙ append_assoc (map (λ (q : Part). q.due) b.units) (g.due ∷ []) b.todo ∙ h.dues in
     record {
       ticket = h.ticket;
       dirs = h.dirs;
@@ -266,8 +274,8 @@ unit_closes b g lines h all =
       dues = dues;
       number = omega (arith, h.number, len);
       lines = h.lines ∙ ap (map spaced) (append_assoc opened (parts_lines first b.units) (unit_line (first + length b.units) g.due g.want ∷ words_lines g.due g.words)
-        ∙ ap (λ (ls : List Line). opened ++ (parts_lines first b.units ++ ls)) here
-        ∙ ap (λ (ls : List Line). opened ++ ls) (sym (parts_more first b.units p)));
+          ∙ ap (λ (ls : List Line). opened ++ (parts_lines first b.units ++ ls)) here
+          ∙ ap (λ (ls : List Line). opened ++ ls) (sym (parts_more first b.units p)));
     }
 
 -- ---- one word more
@@ -295,17 +303,28 @@ word_lines : (b : Body) (g : Begun) (words : UnitWords) (x : Line) (lines : List
 word_lines b g words x lines line e more is =
     one_more (unit_lines_so_far b g) x lines line e is
     ∙ ap (map spaced) (append_assoc (units_lines b) (unit_line (first_number b.party b.dirs + length b.units) g.due g.want ∷ words_lines g.due g.words) (x ∷ [])
-      ∙ ap (λ (ls : List Line). units_lines b ++ unit_line (first_number b.party b.dirs + length b.units) g.due g.want ∷ ls) (sym more))
+    ∙ ap (λ (ls : List Line). units_lines b ++ unit_line (first_number b.party b.dirs + length b.units) g.due g.want ∷ ls) (sym more))
 
 holds_own : (b : Body) (g : Begun) (w : ℕ) (lines : List (List ℕ)) (line : List ℕ) → IsReading b g lines → length g.words.own < g.want.own → word_said (own_mark g.due) line w → IsReading b (add_own g w) (lines ++ line ∷ [])
 holds_own b g w lines line h short said =
     let rest = h.filling.first short in
     let long : length (g.words.own ++ w ∷ []) ≡ length g.words.own + 1 = length-append g.words.own (w ∷ []) in
     record {
-      ticket = h.ticket; dirs = h.dirs; units = h.units; dues = h.dues; number = h.number; fits = h.fits; counts = h.counts;
+      ticket = h.ticket;
+      dirs = h.dirs;
+      units = h.units;
+      dues = h.dues;
+      number = h.number;
+      fits = h.fits;
+      counts = h.counts;
       filling = record {
-        own = omega (arith, long); other = h.filling.other; gates = h.filling.gates; masks = h.filling.masks;
-        first = λ _. rest; second = λ _. (rest.1, rest.2); third = λ _. rest.2;
+        own = omega (arith, long);
+        other = h.filling.other;
+        gates = h.filling.gates;
+        masks = h.filling.masks;
+        first = λ _. rest;
+        second = λ _. (rest.1, rest.2);
+        third = λ _. rest.2;
       };
       words = record { own = all_more IsWord g.words.own w h.words.own said.0; other = h.words.other; gates = h.words.gates; masks = h.words.masks };
       lines = word_lines b g _ (word_line (own_mark g.due) w) lines line h.lines (own_more g.due g.words w rest.0 rest.1 rest.2) said.1;
@@ -316,10 +335,21 @@ holds_other b g w lines line h own short said =
     let rest = h.filling.second short in
     let long : length (g.words.other ++ w ∷ []) ≡ length g.words.other + 1 = length-append g.words.other (w ∷ []) in
     record {
-      ticket = h.ticket; dirs = h.dirs; units = h.units; dues = h.dues; number = h.number; fits = h.fits; counts = h.counts;
+      ticket = h.ticket;
+      dirs = h.dirs;
+      units = h.units;
+      dues = h.dues;
+      number = h.number;
+      fits = h.fits;
+      counts = h.counts;
       filling = record {
-        own = h.filling.own; other = omega (arith, long); gates = h.filling.gates; masks = h.filling.masks;
-        first = λ lt. absurd (omega (arith, own, lt)); second = λ _. rest; third = λ _. rest.1;
+        own = h.filling.own;
+        other = omega (arith, long);
+        gates = h.filling.gates;
+        masks = h.filling.masks;
+        first = λ lt. absurd (omega (arith, own, lt));
+        second = λ _. rest;
+        third = λ _. rest.1;
       };
       words = record { own = h.words.own; other = all_more IsWord g.words.other w h.words.other said.0; gates = h.words.gates; masks = h.words.masks };
       lines = word_lines b g _ (word_line (other_mark g.due) w) lines line h.lines (other_more g.due g.words w rest.0 rest.1) said.1;
@@ -331,10 +361,21 @@ holds_gate b g x lines line h own other short fits said =
     let none = h.filling.third short in
     let long : length (g.words.gates ++ x ∷ []) ≡ length g.words.gates + 1 = length-append g.words.gates (x ∷ []) in
     record {
-      ticket = h.ticket; dirs = h.dirs; units = h.units; dues = h.dues; number = h.number; fits = h.fits; counts = h.counts;
+      ticket = h.ticket;
+      dirs = h.dirs;
+      units = h.units;
+      dues = h.dues;
+      number = h.number;
+      fits = h.fits;
+      counts = h.counts;
       filling = record {
-        own = h.filling.own; other = h.filling.other; gates = omega (arith, long); masks = h.filling.masks;
-        first = λ lt. absurd (omega (arith, own, lt)); second = λ lt. absurd (omega (arith, other, lt)); third = λ _. none;
+        own = h.filling.own;
+        other = h.filling.other;
+        gates = omega (arith, long);
+        masks = h.filling.masks;
+        first = λ lt. absurd (omega (arith, own, lt));
+        second = λ lt. absurd (omega (arith, other, lt));
+        third = λ _. none;
       };
       words = record { own = h.words.own; other = h.words.other; gates = all_more IsGate g.words.gates x h.words.gates fits; masks = h.words.masks };
       lines = word_lines b g _ (gate_line x) lines line h.lines (gate_more g.due g.words x none) said;
@@ -345,10 +386,21 @@ holds_mask : (b : Body) (g : Begun) (w : ℕ) (lines : List (List ℕ)) (line : 
 holds_mask b g w lines line h own other ands short said =
     let long : length (g.words.masks ++ w ∷ []) ≡ length g.words.masks + 1 = length-append g.words.masks (w ∷ []) in
     record {
-      ticket = h.ticket; dirs = h.dirs; units = h.units; dues = h.dues; number = h.number; fits = h.fits; counts = h.counts;
+      ticket = h.ticket;
+      dirs = h.dirs;
+      units = h.units;
+      dues = h.dues;
+      number = h.number;
+      fits = h.fits;
+      counts = h.counts;
       filling = record {
-        own = h.filling.own; other = h.filling.other; gates = h.filling.gates; masks = omega (arith, long);
-        first = λ lt. absurd (omega (arith, own, lt)); second = λ lt. absurd (omega (arith, other, lt)); third = λ lt. absurd (omega (arith, ands, lt));
+        own = h.filling.own;
+        other = h.filling.other;
+        gates = h.filling.gates;
+        masks = omega (arith, long);
+        first = λ lt. absurd (omega (arith, own, lt));
+        second = λ lt. absurd (omega (arith, other, lt));
+        third = λ lt. absurd (omega (arith, ands, lt));
       };
       words = record { own = h.words.own; other = h.words.other; gates = h.words.gates; masks = all_more IsWord g.words.masks w h.words.masks said.0 };
       lines = word_lines b g _ (word_line (codes "m") w) lines line h.lines (mask_more g.due g.words w) said.1;
@@ -362,26 +414,26 @@ holds_word_at Own b g lines line s is h e =
     let m = mapped_some (Words b) _ s e in
     let n = mapped_some (add_own g) (word_of (own_mark g.due) line) m.0 m.1 in
     subst (λ (t : State). Holds t (lines ++ line ∷ [])) m.2 (subst (λ (x : Begun). IsReading b x (lines ++ line ∷ [])) n.2
-      (holds_own b g n.0 lines line h (ltb-true _ _ l) (word_read (own_mark g.due) line n.0 n.1)))
+    (holds_own b g n.0 lines line h (ltb-true _ _ l) (word_read (own_mark g.due) line n.0 n.1)))
 holds_word_at Other b g lines line s is h e =
     let l = lack_is g Other is in
     let m = mapped_some (Words b) _ s e in
     let n = mapped_some (add_other g) (word_of (other_mark g.due) line) m.0 m.1 in
     subst (λ (t : State). Holds t (lines ++ line ∷ [])) m.2 (subst (λ (x : Begun). IsReading b x (lines ++ line ∷ [])) n.2
-      (holds_other b g n.0 lines line h (ltb-false _ _ l.0) (ltb-true _ _ l.1) (word_read (other_mark g.due) line n.0 n.1)))
+    (holds_other b g n.0 lines line h (ltb-false _ _ l.0) (ltb-true _ _ l.1) (word_read (other_mark g.due) line n.0 n.1)))
 holds_word_at Gates b g lines line s is h e =
     let l = lack_is g Gates is in
     let m = mapped_some (Words b) _ s e in
     let n = mapped_some (add_gate g) (gate_of line) m.0 m.1 in
     let x = gate_read line n.0 n.1 in
     subst (λ (t : State). Holds t (lines ++ line ∷ [])) m.2 (subst (λ (y : Begun). IsReading b y (lines ++ line ∷ [])) n.2
-      (holds_gate b g n.0 lines line h (ltb-false _ _ l.0) (ltb-false _ _ l.1) (ltb-true _ _ l.2) x.0 x.1))
+    (holds_gate b g n.0 lines line h (ltb-false _ _ l.0) (ltb-false _ _ l.1) (ltb-true _ _ l.2) x.0 x.1))
 holds_word_at Masks b g lines line s is h e =
     let l = lack_is g Masks is in
     let m = mapped_some (Words b) _ s e in
     let n = mapped_some (add_mask g) (word_of (codes "m") line) m.0 m.1 in
     subst (λ (t : State). Holds t (lines ++ line ∷ [])) m.2 (subst (λ (x : Begun). IsReading b x (lines ++ line ∷ [])) n.2
-      (holds_mask b g n.0 lines line h (ltb-false _ _ l.0) (ltb-false _ _ l.1) (ltb-false _ _ l.2) (ltb-true _ _ l.3) (word_read (codes "m") line n.0 n.1)))
+    (holds_mask b g n.0 lines line h (ltb-false _ _ l.0) (ltb-false _ _ l.1) (ltb-false _ _ l.2) (ltb-true _ _ l.3) (word_read (codes "m") line n.0 n.1)))
 holds_word_at Nothing b g lines line s is h e =
     let l = lack_is g Nothing is in
     let all = full g.want g.words h.filling (ltb-false _ _ l.0) (ltb-false _ _ l.1) (ltb-false _ _ l.2) (ltb-false _ _ l.3) in

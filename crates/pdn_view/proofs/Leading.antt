@@ -57,7 +57,7 @@ runs_first s t u x xs a b = ap (λ (o : Option State). onward o (λ r. runs r xs
 pub head_leads : (party : Party) (ticket : ℕ) → ticket < 2 ^ 64 → next Begin (spaced (head_line party ticket)) ≡ Some (Segments (opening (party, ticket)))
 head_leads party ticket h =
     ap (mapped (λ (x : Party × ℕ). Segments (opening x)))
-      (checked_same (λ (x : Party × ℕ). head_line x.0 x.1) (spaced (head_line party ticket)) (head_in (spaced (head_line party ticket))) (party, ticket) (head_again party ticket h) refl)
+    (checked_same (λ (x : Party × ℕ). head_line x.0 x.1) (spaced (head_line party ticket)) (head_in (spaced (head_line party ticket))) (party, ticket) (head_again party ticket h) refl)
 
 first_of_segment : (number : ℕ) (site : Site) (values : List Value) → AllByRecursion IsValue values → bytes_eq (word (spaced (segment_line number site values)) 0) (codes "segment") ≡ true
 first_of_segment number site values h = ap (λ (w : List ℕ). bytes_eq w (codes "segment")) (word_of_line (codes "segment") (decimal number ∷ site_text site ∷ map value_text values) 0 (solid_segment number site values h))
@@ -82,14 +82,14 @@ segments_lead o (d ∷ ds) h =
     let after : Opening = with_dirs o d.a d.b in
     let len : length o.dirs + 1 ≡ length after.dirs = sym (length-append o.dirs (record { a = d.a; b = d.b } ∷ [])) in
     let rest : runs (Segments after) (map spaced (segment_lines (length o.dirs + 1) ds)) ≡ Some (Segments (with_all after ds)) =
-      ap (λ (n : ℕ). runs (Segments after) (map spaced (segment_lines n ds))) len ∙ segments_lead after ds h.1 in
+    ap (λ (n : ℕ). runs (Segments after) (map spaced (segment_lines n ds))) len ∙ segments_lead after ds h.1 in
     let all : with_all after ds ≡ with_all o (d ∷ ds) = ap (λ (xs : List Dirs). record { party = o.party; ticket = o.ticket; dirs = xs }) (append_assoc o.dirs (d ∷ []) ds) in
     let first : List ℕ = spaced (segment_line (length o.dirs) A d.a) in
     let second : List ℕ = spaced (segment_line (length o.dirs) B d.b) in
     let others : List (List ℕ) = map spaced (segment_lines (length o.dirs + 1) ds) in
     let end : State = Segments (with_all o (d ∷ ds)) in
     runs_first (Segments o) (Half o d.a) end first (second ∷ others) (half_leads o d.a h.0.a)
-      (runs_first (Half o d.a) (Segments after) end second others (whole_leads o d.a d.b h.0.b) (rest ∙ ap (λ (x : Opening). Some (Segments x)) all))
+    (runs_first (Half o d.a) (Segments after) end second others (whole_leads o d.a d.b h.0.b) (rest ∙ ap (λ (x : Opening). Some (Segments x)) all))
 
 -- ---- the words of a unit
 
@@ -145,10 +145,10 @@ owns_lead b g (x ∷ xs) fits h =
     let len : length (g.words.own ++ x ∷ []) ≡ length g.words.own + 1 = length-append g.words.own (x ∷ []) in
     let line : List ℕ = spaced (word_line (own_mark g.due) x) in
     let one : next (Words b g) line ≡ Some (Words b (add_own g x)) =
-      ap (λ (l : Lack). lacking l b g line) (lacks_own g (omega arith)) ∙ ap (λ (o : Option ℕ). mapped (Words b) (mapped (add_own g) o)) (word_leads (own_mark g.due) x (solid_own g.due) h.0) in
+    ap (λ (l : Lack). lacking l b g line) (lacks_own g (omega arith)) ∙ ap (λ (o : Option ℕ). mapped (Words b) (mapped (add_own g) o)) (word_leads (own_mark g.due) x (solid_own g.due) h.0) in
     runs_first (Words b g) (Words b (add_own g x)) _ _ _ one
-      (owns_lead b (add_own g x) xs (omega (arith, len, fits)) h.1
-        ∙ ap (λ (ys : List ℕ). Some (Words b (with_words g (record { own = ys; other = g.words.other; gates = g.words.gates; masks = g.words.masks })))) (append_assoc g.words.own (x ∷ []) xs))
+    (owns_lead b (add_own g x) xs (omega (arith, len, fits)) h.1
+    ∙ ap (λ (ys : List ℕ). Some (Words b (with_words g (record { own = ys; other = g.words.other; gates = g.words.gates; masks = g.words.masks })))) (append_assoc g.words.own (x ∷ []) xs))
 
 pub others_lead : (b : Body) (g : Begun) (xs : List ℕ) → g.want.own ≤ length g.words.own → length g.words.other + length xs ≤ g.want.other → AllByRecursion IsWord xs
     → runs (Words b g) (map spaced (map (word_line (other_mark g.due)) xs)) ≡ Some (Words b (with_others g xs))
@@ -157,10 +157,10 @@ others_lead b g (x ∷ xs) own fits h =
     let len : length (g.words.other ++ x ∷ []) ≡ length g.words.other + 1 = length-append g.words.other (x ∷ []) in
     let line : List ℕ = spaced (word_line (other_mark g.due) x) in
     let one : next (Words b g) line ≡ Some (Words b (add_other g x)) =
-      ap (λ (l : Lack). lacking l b g line) (lacks_other g own (omega arith)) ∙ ap (λ (o : Option ℕ). mapped (Words b) (mapped (add_other g) o)) (word_leads (other_mark g.due) x (solid_other g.due) h.0) in
+    ap (λ (l : Lack). lacking l b g line) (lacks_other g own (omega arith)) ∙ ap (λ (o : Option ℕ). mapped (Words b) (mapped (add_other g) o)) (word_leads (other_mark g.due) x (solid_other g.due) h.0) in
     runs_first (Words b g) (Words b (add_other g x)) _ _ _ one
-      (others_lead b (add_other g x) xs own (omega (arith, len, fits)) h.1
-        ∙ ap (λ (ys : List ℕ). Some (Words b (with_words g (record { own = g.words.own; other = ys; gates = g.words.gates; masks = g.words.masks })))) (append_assoc g.words.other (x ∷ []) xs))
+    (others_lead b (add_other g x) xs own (omega (arith, len, fits)) h.1
+    ∙ ap (λ (ys : List ℕ). Some (Words b (with_words g (record { own = g.words.own; other = ys; gates = g.words.gates; masks = g.words.masks })))) (append_assoc g.words.other (x ∷ []) xs))
 
 pub gates_lead : (b : Body) (g : Begun) (xs : List GateView) → g.want.own ≤ length g.words.own → g.want.other ≤ length g.words.other → length g.words.gates + length xs ≤ g.want.ands → AllByRecursion IsGate xs
     → runs (Words b g) (map spaced (map gate_line xs)) ≡ Some (Words b (with_gates g xs))
@@ -169,10 +169,10 @@ gates_lead b g (x ∷ xs) own other fits h =
     let len : length (g.words.gates ++ x ∷ []) ≡ length g.words.gates + 1 = length-append g.words.gates (x ∷ []) in
     let line : List ℕ = spaced (gate_line x) in
     let one : next (Words b g) line ≡ Some (Words b (add_gate g x)) =
-      ap (λ (l : Lack). lacking l b g line) (lacks_gates g own other (omega arith)) ∙ ap (λ (o : Option GateView). mapped (Words b) (mapped (add_gate g) o)) (gate_leads x h.0) in
+    ap (λ (l : Lack). lacking l b g line) (lacks_gates g own other (omega arith)) ∙ ap (λ (o : Option GateView). mapped (Words b) (mapped (add_gate g) o)) (gate_leads x h.0) in
     runs_first (Words b g) (Words b (add_gate g x)) _ _ _ one
-      (gates_lead b (add_gate g x) xs own other (omega (arith, len, fits)) h.1
-        ∙ ap (λ (ys : List GateView). Some (Words b (with_words g (record { own = g.words.own; other = g.words.other; gates = ys; masks = g.words.masks })))) (append_assoc g.words.gates (x ∷ []) xs))
+    (gates_lead b (add_gate g x) xs own other (omega (arith, len, fits)) h.1
+    ∙ ap (λ (ys : List GateView). Some (Words b (with_words g (record { own = g.words.own; other = g.words.other; gates = ys; masks = g.words.masks })))) (append_assoc g.words.gates (x ∷ []) xs))
 
 pub masks_lead : (b : Body) (g : Begun) (xs : List ℕ) → g.want.own ≤ length g.words.own → g.want.other ≤ length g.words.other → g.want.ands ≤ length g.words.gates → length g.words.masks + length xs ≤ g.want.masks → AllByRecursion IsWord xs
     → runs (Words b g) (map spaced (map (word_line (codes "m")) xs)) ≡ Some (Words b (with_masks g xs))
@@ -181,10 +181,10 @@ masks_lead b g (x ∷ xs) own other ands fits h =
     let len : length (g.words.masks ++ x ∷ []) ≡ length g.words.masks + 1 = length-append g.words.masks (x ∷ []) in
     let line : List ℕ = spaced (word_line (codes "m") x) in
     let one : next (Words b g) line ≡ Some (Words b (add_mask g x)) =
-      ap (λ (l : Lack). lacking l b g line) (lacks_masks g own other ands (omega arith)) ∙ ap (λ (o : Option ℕ). mapped (Words b) (mapped (add_mask g) o)) (word_leads (codes "m") x refl h.0) in
+    ap (λ (l : Lack). lacking l b g line) (lacks_masks g own other ands (omega arith)) ∙ ap (λ (o : Option ℕ). mapped (Words b) (mapped (add_mask g) o)) (word_leads (codes "m") x refl h.0) in
     runs_first (Words b g) (Words b (add_mask g x)) _ _ _ one
-      (masks_lead b (add_mask g x) xs own other ands (omega (arith, len, fits)) h.1
-        ∙ ap (λ (ys : List ℕ). Some (Words b (with_words g (record { own = g.words.own; other = g.words.other; gates = g.words.gates; masks = ys })))) (append_assoc g.words.masks (x ∷ []) xs))
+    (masks_lead b (add_mask g x) xs own other ands (omega (arith, len, fits)) h.1
+    ∙ ap (λ (ys : List ℕ). Some (Words b (with_words g (record { own = g.words.own; other = g.words.other; gates = g.words.gates; masks = ys })))) (append_assoc g.words.masks (x ∷ []) xs))
 
 abbrev pub read_part : Due → UnitWords → Begun
 read_part due w = record { due = due; want = counts_of w; words = w }
@@ -200,12 +200,12 @@ words_lead b due w h =
     let gates : List Line = map gate_line w.gates in
     let masks : List Line = map (word_line (codes "m")) w.masks in
     let all : map spaced (words_lines due w) ≡ map spaced own ++ (map spaced other ++ (map spaced gates ++ map spaced masks)) =
-      simp (map-append, append_assoc) in
+    simp (map-append, append_assoc) in
     ap (runs (Words b g0)) all
     ∙ runs_on (Words b g0) (Words b g1) _ (map spaced own) _ (owns_lead b g0 w.own (omega arith) h.own)
-      (runs_on (Words b g1) (Words b g2) _ (map spaced other) _ (others_lead b g1 w.other (omega arith) (omega arith) h.other)
-      (runs_on (Words b g2) (Words b g3) _ (map spaced gates) (map spaced masks) (gates_lead b g2 w.gates (omega arith) (omega arith) (omega arith) h.gates)
-        (masks_lead b g3 w.masks (omega arith) (omega arith) (omega arith) (omega arith) h.masks)))
+    (runs_on (Words b g1) (Words b g2) _ (map spaced other) _ (others_lead b g1 w.other (omega arith) (omega arith) h.other)
+    (runs_on (Words b g2) (Words b g3) _ (map spaced gates) (map spaced masks) (gates_lead b g2 w.gates (omega arith) (omega arith) (omega arith) h.gates)
+    (masks_lead b g3 w.masks (omega arith) (omega arith) (omega arith) (omega arith) h.masks)))
 
 -- ---- units
 
@@ -232,7 +232,7 @@ unit_leads s b p todo on is h part =
     on.on line (no_segment b.number p.due (counts_of p.words) h)
     ∙ ap (λ (ds : List Due). opens b ds line) is
     ∙ ap (mapped (λ (want : Counts). Words (onto b todo) (begun p.due want)))
-        (checked_same (unit_line b.number p.due) line (counts_in p.due line) (counts_of p.words) (unit_again b.number p.due (counts_of p.words) h part.fits part.counts) refl)
+    (checked_same (unit_line b.number p.due) line (counts_in p.due line) (counts_of p.words) (unit_again b.number p.due (counts_of p.words) h part.fits part.counts) refl)
 
 part_leads : (s : State) (b : Body) (p : Part) (todo : List Due) → Between s b → b.todo ≡ p.due ∷ todo → HasValue p.due → IsPart p
     → runs s (map spaced (part_lines b.number p)) ≡ Some (Words (onto b todo) (read_part p.due p.words))
@@ -253,8 +253,13 @@ pub record Ended (s : State) (lines : List (List ℕ)) (v : ViewWords) : Type 0 
 pub parts_lead : (ps : List Part) (s : State) (b : Body) → Between s b → b.todo ≡ map (λ p. p.due) ps → AllByRecursion HasValue (map (λ p. p.due) ps) → AllByRecursion IsPart ps
     → Ended s (map spaced (parts_lines b.number ps)) (units_view b ps)
 parts_lead [] s b on is h parts = record {
-  state = s; body = b; leads = refl; on = on; none = is;
-  is = ap (λ (us : List Part). record { party = b.party; ticket = b.ticket; dirs = b.dirs; units = us }) (sym (append-nil b.units)) }
+  state = s;
+  body = b;
+  leads = refl;
+  on = on;
+  none = is;
+  is = ap (λ (us : List Part). record { party = b.party; ticket = b.ticket; dirs = b.dirs; units = us }) (sym (append-nil b.units));
+}
 parts_lead (p ∷ ps) s b on is h parts =
     let todo : List Due = map (λ (q : Part). q.due) ps in
     let g : Begun = read_part p.due p.words in
@@ -263,10 +268,10 @@ parts_lead (p ∷ ps) s b on is h parts =
     let full : lack g ≡ Nothing = lacks_nothing g (omega arith) (omega arith) (omega arith) (omega arith) in
     let rest : Ended (Words (onto b todo) g) (map spaced (parts_lines (b.number + 1) ps)) (units_view c ps) = parts_lead ps (Words (onto b todo) g) c (between_units (onto b todo) g full) refl h.1 parts.1 in
     let both : map spaced (parts_lines b.number (p ∷ ps)) ≡ map spaced (part_lines b.number p) ++ map spaced (parts_lines (b.number + 1) ps) =
-      map-append spaced (part_lines b.number p) (parts_lines (b.number + 1) ps) in
+    map-append spaced (part_lines b.number p) (parts_lines (b.number + 1) ps) in
     let kept_is : kept p.due p.words ≡ p.words = kept_same p.due p.words parts.0.fits in
     let units : (b.units ++ record { due = p.due; words = kept p.due p.words } ∷ []) ++ ps ≡ b.units ++ p ∷ ps =
-      ap (λ (w : UnitWords). (b.units ++ record { due = p.due; words = w } ∷ []) ++ ps) kept_is ∙ append_assoc b.units (p ∷ []) ps in
+    ap (λ (w : UnitWords). (b.units ++ record { due = p.due; words = w } ∷ []) ++ ps) kept_is ∙ append_assoc b.units (p ∷ []) ps in
     record {
       state = rest.state;
       body = rest.body;
@@ -307,7 +312,7 @@ all_valued : (dirs : List Dirs) → AllByRecursion AreDirs dirs → AllByRecursi
 all_valued [] h = tt
 all_valued (d ∷ ds) h =
     subst (AllByRecursion HasValue) (sym (flat_map-cons (λ (e : Dirs). slices e.a e.b) d ds))
-      (all_append HasValue (slices d.a d.b) (all_slices ds) (slices_valued d.a d.b h.0.a.values h.0.b.values) (all_valued ds h.1))
+    (all_append HasValue (slices d.a d.b) (all_slices ds) (slices_valued d.a d.b h.0.a.values h.0.b.values) (all_valued ds h.1))
 
 pub dues_valued : (party : Party) (dirs : List Dirs) → AllByRecursion AreDirs dirs → AllByRecursion HasValue (dues_of party dirs)
 dues_valued parties.A dirs h = all_more HasValue (all_slices dirs) Root (all_valued dirs h) tt
@@ -323,18 +328,18 @@ units_lead o ps dirs parts dues =
     let valued : AllByRecursion HasValue (map (λ (p : Part). p.due) ps) = subst (AllByRecursion HasValue) (sym dues) (dues_valued o.party o.dirs dirs) in
     let e : Ended (Segments o) (map spaced (parts_lines (first_number o.party o.dirs) ps)) (units_view (body_of o) ps) = parts_lead ps (Segments o) (body_of o) (between_segments o) (sym dues) valued parts in
     ap (runs (Segments o)) (map-append spaced (parts_lines (first_number o.party o.dirs) ps) (end_line ∷ []))
-    ∙ runs_on (Segments o) e.state _ _ _ e.leads
-        (runs_first e.state (Closed (view_of e.body)) _ (spaced end_line) [] (ends_lead e.state e.body e.on e.none) (ap (λ (v : ViewWords). Some (Closed v)) e.is))
+    ∙ runs_on (Segments o) e.state (Closed (units_view (body_of o) ps)) (map spaced (parts_lines (first_number o.party o.dirs) ps)) (spaced end_line ∷ []) e.leads
+    (runs_first e.state (Closed (view_of e.body)) (Closed (units_view (body_of o) ps)) (spaced end_line) [] (ends_lead e.state e.body e.on e.none) (ap (λ (v : ViewWords). Some (Closed v)) e.is))
 
 pub view_leads : (v : ViewWords) → IsView v → runs Begin (map spaced (view_lines v)) ≡ Some (Closed v)
 view_leads v h =
     let o : Opening = record { party = v.party; ticket = v.ticket; dirs = v.dirs } in
     let segments : List Line = segment_lines 0 v.dirs in
     let units : List Line = parts_lines (first_number v.party v.dirs) v.units ++ end_line ∷ [] in
-    runs_first Begin (Segments (opening (v.party, v.ticket))) _ _ _ (head_leads v.party v.ticket h.ticket)
-      (ap (runs (Segments (opening (v.party, v.ticket)))) (ap (map spaced) (append_assoc segments (parts_lines (first_number v.party v.dirs) v.units) (end_line ∷ [])) ∙ map-append spaced segments units)
-        ∙ runs_on (Segments (opening (v.party, v.ticket))) (Segments o) _ (map spaced segments) (map spaced units)
-          (segments_lead (opening (v.party, v.ticket)) v.dirs h.dirs) (units_lead o v.units h.dirs h.units h.dues))
+    runs_first Begin (Segments (opening (v.party, v.ticket))) (Closed v) (spaced (head_line v.party v.ticket)) (map spaced ((segments ++ parts_lines (first_number v.party v.dirs) v.units) ++ end_line ∷ [])) (head_leads v.party v.ticket h.ticket)
+    (ap (runs (Segments (opening (v.party, v.ticket)))) (ap (map spaced) (append_assoc segments (parts_lines (first_number v.party v.dirs) v.units) (end_line ∷ [])) ∙ map-append spaced segments units)
+    ∙ runs_on (Segments (opening (v.party, v.ticket))) (Segments o) (Closed v) (map spaced segments) (map spaced units)
+    (segments_lead (opening (v.party, v.ticket)) v.dirs h.dirs) (units_lead o v.units h.dirs h.units h.dues))
 
 -- ---- no line of a view has a line feed
 
@@ -359,12 +364,12 @@ lined_words due w h =
     let gates : List Line = map gate_line w.gates in
     let masks : List Line = map (word_line (codes "m")) w.masks in
     all_append IsLined ((own ++ other) ++ gates) masks
-      (all_append IsLined (own ++ other) gates
-        (all_append IsLined own other
-          (all_map IsWord IsLined (word_line (own_mark due)) w.own h.own (λ x k. solid_word_line (own_mark due) x (solid_own due)))
-          (all_map IsWord IsLined (word_line (other_mark due)) w.other h.other (λ x k. solid_word_line (other_mark due) x (solid_other due))))
-        (all_map IsGate IsLined gate_line w.gates h.gates (λ x k. solid_gate_line x)))
-      (all_map IsWord IsLined (word_line (codes "m")) w.masks h.masks (λ x k. solid_word_line (codes "m") x refl))
+    (all_append IsLined (own ++ other) gates
+    (all_append IsLined own other
+    (all_map IsWord IsLined (word_line (own_mark due)) w.own h.own (λ x k. solid_word_line (own_mark due) x (solid_own due)))
+    (all_map IsWord IsLined (word_line (other_mark due)) w.other h.other (λ x k. solid_word_line (other_mark due) x (solid_other due))))
+    (all_map IsGate IsLined gate_line w.gates h.gates (λ x k. solid_gate_line x)))
+    (all_map IsWord IsLined (word_line (codes "m")) w.masks h.masks (λ x k. solid_word_line (codes "m") x refl))
 
 lined_parts : (n : ℕ) (ps : List Part) → AllByRecursion HasValue (map (λ p. p.due) ps) → AllByRecursion IsPart ps → Lined (parts_lines n ps)
 lined_parts n [] v h = tt
@@ -380,6 +385,8 @@ view_unbroken v h =
     let valued : AllByRecursion HasValue (map (λ (p : Part). p.due) v.units) = subst (AllByRecursion HasValue) (sym h.dues) (dues_valued v.party v.dirs h.dirs) in
     let segments : List Line = segment_lines 0 v.dirs in
     let parts : List Line = parts_lines (first_number v.party v.dirs) v.units in
-    lines_unbroken (view_lines v)
-      (solid_head v.party v.ticket, all_append IsLined (segments ++ parts) (end_line ∷ [])
-        (all_append IsLined segments parts (lined_segments 0 v.dirs h.dirs) (lined_parts (first_number v.party v.dirs) v.units valued h.units)) (refl, tt))
+    lines_unbroken (view_lines v) (
+      solid_head v.party v.ticket,
+      all_append IsLined (segments ++ parts) (end_line ∷ [])
+          (all_append IsLined segments parts (lined_segments 0 v.dirs h.dirs) (lined_parts (first_number v.party v.dirs) v.units valued h.units)) (refl, tt),
+    )

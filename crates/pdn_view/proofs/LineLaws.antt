@@ -50,7 +50,7 @@ segments_more n [] d =
 segments_more n (x ∷ xs) d =
     let k : (n + 1) + length xs ≡ n + length (x ∷ xs) = omega arith in
     ap (λ (ls : List Line). segment_line n A x.a ∷ segment_line n B x.b ∷ ls)
-      (segments_more (n + 1) xs d ∙ ap (λ (i : ℕ). segment_lines (n + 1) xs ++ segment_line i A d.a ∷ segment_line i B d.b ∷ []) k)
+    (segments_more (n + 1) xs d ∙ ap (λ (i : ℕ). segment_lines (n + 1) xs ++ segment_line i A d.a ∷ segment_line i B d.b ∷ []) k)
 
 pub parts_more : (n : ℕ) (ps : List Part) (p : Part) → parts_lines n (ps ++ p ∷ []) ≡ parts_lines n ps ++ part_lines (n + length ps) p
 parts_more n [] p =
@@ -61,7 +61,6 @@ parts_more n (x ∷ xs) p =
     ap (λ (ls : List Line). part_lines n x ++ ls) (parts_more (n + 1) xs p ∙ ap (λ (i : ℕ). parts_lines (n + 1) xs ++ part_lines i p) k)
     ∙ sym (append_assoc (part_lines n x) (parts_lines (n + 1) xs) (part_lines (n + length (x ∷ xs)) p))
 
-
 pub segments_next : (ds : List Dirs) (i : ℕ) (d : Dirs) (before old new : List ℕ) → i < length ds → d ≡ get_or ds i d
     → old ≡ before ++ lines_text (segment_lines 0 (take i ds)) → new ≡ old ++ lines_text (segment_line i A d.a ∷ segment_line i B d.b ∷ [])
     → new ≡ before ++ lines_text (segment_lines 0 (take (i + 1) ds))
@@ -70,7 +69,7 @@ segments_next ds i d before old new lt is so_far added =
     let more : take (i + 1) ds ≡ take i ds ++ d ∷ [] = take_more ds i d lt ∙ ap (λ (x : Dirs). take i ds ++ x ∷ []) (sym is) in
     let both : List Line = segment_line i A d.a ∷ segment_line i B d.b ∷ [] in
     let lines : segment_lines 0 (take (i + 1) ds) ≡ segment_lines 0 (take i ds) ++ both =
-      ap (segment_lines 0) more ∙ segments_more 0 (take i ds) d ∙ ap (λ (n : ℕ). segment_lines 0 (take i ds) ++ segment_line n A d.a ∷ segment_line n B d.b ∷ []) len in
+    ap (segment_lines 0) more ∙ segments_more 0 (take i ds) d ∙ ap (λ (n : ℕ). segment_lines 0 (take i ds) ++ segment_line n A d.a ∷ segment_line n B d.b ∷ []) len in
     added ∙ ap (λ (t : List ℕ). t ++ lines_text both) so_far ∙ append_assoc before (lines_text (segment_lines 0 (take i ds))) (lines_text both)
     ∙ ap (λ (t : List ℕ). before ++ t) (sym (lines_more (segment_lines 0 (take i ds)) both) ∙ ap lines_text (sym lines))
 
@@ -81,6 +80,6 @@ parts_next first us i u before old new lt is so_far added =
     let len : length (map part_of (take i us)) ≡ i = length-map (take i us) part_of ∙ length-take-le i us (omega arith) in
     let more : map part_of (take (i + 1) us) ≡ map part_of (take i us) ++ part_of u ∷ [] = map_more part_of us i u lt ∙ ap (λ (x : UnitPart). map part_of (take i us) ++ part_of x ∷ []) (sym is) in
     let lines : parts_lines first (map part_of (take (i + 1) us)) ≡ parts_lines first (map part_of (take i us)) ++ part_lines (first + i) (part_of u) =
-      ap (parts_lines first) more ∙ parts_more first (map part_of (take i us)) (part_of u) ∙ ap (λ (n : ℕ). parts_lines first (map part_of (take i us)) ++ part_lines (first + n) (part_of u)) len in
+    ap (parts_lines first) more ∙ parts_more first (map part_of (take i us)) (part_of u) ∙ ap (λ (n : ℕ). parts_lines first (map part_of (take i us)) ++ part_lines (first + n) (part_of u)) len in
     added ∙ ap (λ (t : List ℕ). t ++ lines_text (part_lines (first + i) (part_of u))) so_far ∙ append_assoc before (lines_text (parts_lines first (map part_of (take i us)))) (lines_text (part_lines (first + i) (part_of u)))
     ∙ ap (λ (t : List ℕ). before ++ t) (sym (lines_more (parts_lines first (map part_of (take i us))) (part_lines (first + i) (part_of u))) ∙ ap lines_text (sym lines))

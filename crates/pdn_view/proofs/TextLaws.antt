@@ -1,6 +1,6 @@
 -- What reading a text answers.
 use Rattle.std.proofs.Common.{◌≡◌, ◌<◌, ◌≤◌, ◌^◌, ℕ, ◌+◌, ◌-◌, Bool, true, false, eqb, List, [], ◌∷◌, ◌++◌, map, length, Option, Some, None, Result, Ok, Err, refl, sym, ap, subst, ◌∙◌, append_assoc, arith, length-append}
-use Rattle.std.specs.Prelude.{not, ◌&&◌}
+use Rattle.std.specs.Prelude.{not, ◌&&◌, IfOk, IfErr}
 use Rattle.std.specs.List.{list_all, flat_map, slice_split}
 use Rattle.std.proofs.lemmas.Bool.{eq-eqb, false≢true}
 use Rattle.std.proofs.lemmas.List.{append-nil}
@@ -46,7 +46,7 @@ one_ended line = flat_map-cons ended line [] ∙ append-nil (ended line)
 front_more : (front : List (List ℕ)) (line rest : List ℕ) → ended_lines front ++ (line ++ 10 ∷ rest) ≡ ended_lines (front ++ line ∷ []) ++ rest
 front_more front line rest =
     sym (ap (λ (t : List ℕ). t ++ rest) (ended_more front (line ∷ []) ∙ ap (λ (t : List ℕ). ended_lines front ++ t) (one_ended line))
-      ∙ append_assoc (ended_lines front) (ended line) rest ∙ ap (λ (t : List ℕ). ended_lines front ++ t) (append_assoc line (10 ∷ []) rest))
+    ∙ append_assoc (ended_lines front) (ended line) rest ∙ ap (λ (t : List ℕ). ended_lines front ++ t) (append_assoc line (10 ∷ []) rest))
 
 lines_push : (front : List (List ℕ)) (line : List ℕ) → list_all is_line front ≡ true → is_line line ≡ true → list_all is_line (front ++ line ∷ []) ≡ true
 lines_push front line h k = list_all-append is_line front (line ∷ []) ∙ both_true (list_all is_line front) _ h (both_true (is_line line) true k refl)
@@ -98,9 +98,9 @@ view_front : (v : ViewWords) (front : List (List ℕ)) (more : List ℕ) → IsV
 view_front v front more h lines e =
     let own : List (List ℕ) = map spaced (view_lines v) in
     let cut_own : slice_split (λ b. eqb b 10) (view_text v) ≡ own ++ [] ∷ [] =
-      ap (slice_split (λ b. eqb b 10)) (view_ended v ∙ sym (append-nil (ended_lines own))) ∙ split_lines own [] (view_unbroken v h) in
+    ap (slice_split (λ b. eqb b 10)) (view_ended v ∙ sym (append-nil (ended_lines own))) ∙ split_lines own [] (view_unbroken v h) in
     let cut_front : slice_split (λ b. eqb b 10) (view_text v) ≡ front ++ slice_split (λ b. eqb b 10) more =
-      ap (slice_split (λ b. eqb b 10)) e ∙ split_lines front more lines in
+    ap (slice_split (λ b. eqb b 10)) e ∙ split_lines front more lines in
     begins_with own front (slice_split (λ b. eqb b 10) more) [] (sym cut_own ∙ cut_front) (omega (arith, length-slice_split (λ b. eqb b 10) more))
 
 -- so they lead somewhere
@@ -160,8 +160,8 @@ fault_here bytes s rest line more n r cut none =
       counted = r.counted;
       goes_on = (b.view, b.more, b.is, b.text);
       ends = λ other after whole e v past h text.
-        let same : line ≡ other = same_line rest line more other after cut whole e in
-        no_view r.front other s v past r.lines whole r.leads (subst (λ (l : List ℕ). next s l ≡ None) same none) h text;
+          let same : line ≡ other = same_line rest line more other after cut whole e in
+          no_view r.front other s v past r.lines whole r.leads (subst (λ (l : List ℕ). next s l ≡ None) same none) h text;
       none = λ v h text. no_view r.front line s v more r.lines cut.without r.leads none h (sym text ∙ r.parts ∙ ap (λ (t : List ℕ). ended_lines r.front ++ t) cut.parts);
     }
 
@@ -186,9 +186,9 @@ whole_is : (bytes : List ℕ) (s : State) (rest : List ℕ) (n : ℕ) (v : ViewW
 whole_is bytes s rest n v r none h e =
     let own : List (List ℕ) = map spaced (view_lines v) in
     let cut_own : slice_split (λ b. eqb b 10) bytes ≡ own ++ [] ∷ [] =
-      ap (slice_split (λ b. eqb b 10)) (e ∙ view_ended v ∙ sym (append-nil (ended_lines own))) ∙ split_lines own [] (view_unbroken v h) in
+    ap (slice_split (λ b. eqb b 10)) (e ∙ view_ended v ∙ sym (append-nil (ended_lines own))) ∙ split_lines own [] (view_unbroken v h) in
     let cut_read : slice_split (λ b. eqb b 10) bytes ≡ r.front ++ rest ∷ [] =
-      ap (slice_split (λ b. eqb b 10)) r.parts ∙ split_lines r.front rest r.lines ∙ ap (λ (ls : List (List ℕ)). r.front ++ ls) (split_none 10 rest none) in
+    ap (slice_split (λ b. eqb b 10)) r.parts ∙ split_lines r.front rest r.lines ∙ ap (λ (ls : List (List ℕ)). r.front ++ ls) (split_none 10 rest none) in
     let same = last_same r.front own rest [] (sym cut_read ∙ cut_own) in
     let leads : runs Begin r.front ≡ Some (Closed v) = ap (runs Begin) same.0 ∙ view_leads v h in
     (cc (r.leads, leads), same.1)
@@ -220,9 +220,9 @@ only_one v w h k e =
     let a : List (List ℕ) = map spaced (view_lines v) in
     let b : List (List ℕ) = map spaced (view_lines w) in
     let cut_a : slice_split (λ c. eqb c 10) (view_text v) ≡ a ++ [] ∷ [] =
-      ap (slice_split (λ c. eqb c 10)) (view_ended v ∙ sym (append-nil (ended_lines a))) ∙ split_lines a [] (view_unbroken v h) in
+    ap (slice_split (λ c. eqb c 10)) (view_ended v ∙ sym (append-nil (ended_lines a))) ∙ split_lines a [] (view_unbroken v h) in
     let cut_b : slice_split (λ c. eqb c 10) (view_text v) ≡ b ++ [] ∷ [] =
-      ap (slice_split (λ c. eqb c 10)) (e ∙ view_ended w ∙ sym (append-nil (ended_lines b))) ∙ split_lines b [] (view_unbroken w k) in
+    ap (slice_split (λ c. eqb c 10)) (e ∙ view_ended w ∙ sym (append-nil (ended_lines b))) ∙ split_lines b [] (view_unbroken w k) in
     let same = last_same a b [] [] (sym cut_a ∙ cut_b) in
     let two : Some (Closed v) ≡ Some (Closed w) = sym (view_leads v h) ∙ ap (runs Begin) same.0 ∙ view_leads w k in
     cc two
@@ -231,3 +231,17 @@ only_one v w h k e =
 
 pub gives_view : (bytes : List ℕ) (w : ViewWords) → IsView w × (bytes ≡ view_text w) → (v : ViewWords) → IsView v → bytes ≡ view_text v → w ≡ v
 gives_view bytes w said v h e = only_one w v said.0 h (sym said.1 ∙ e)
+
+pub found_at : (bytes : List ℕ) (s : State) (rest : List ℕ) (n : ℕ) (r : Result ViewWords ViewErr) → Read bytes s rest n → Finishes s rest n r → IfOk r (λ v. IsView v × (bytes ≡ view_text v))
+found_at bytes s rest n (Ok v) h f = found bytes v rest n (subst (λ (t : State). Read bytes t rest n) f.0 h) f.1
+found_at bytes s rest n (Err e) h f = tt
+
+pub only_at : (bytes : List ℕ) (s : State) (rest : List ℕ) (n : ℕ) (r : Result ViewWords ViewErr) → Read bytes s rest n → without 10 rest ≡ true → Finishes s rest n r
+    → (v : ViewWords) → IsView v → bytes ≡ view_text v → Gives v r
+only_at bytes s rest n (Ok w) h none f v k e = gives_view bytes w (found_at bytes s rest n (Ok w) h f) v k e
+only_at bytes s rest n (Err Memory) h none f v k e = tt
+only_at bytes s rest n (Err (At m)) h none f v k e = (fault_end bytes s rest n h none f.1).none v k e
+
+pub fault_at : (bytes : List ℕ) (s : State) (rest : List ℕ) (n : ℕ) (r : Result ViewWords ViewErr) → Read bytes s rest n → without 10 rest ≡ true → Finishes s rest n r → IfErr r (IsFault bytes)
+fault_at bytes s rest n (Ok v) h none f = tt
+fault_at bytes s rest n (Err e) h none f = subst (IsFault bytes) (sym f.0) (fault_end bytes s rest n h none f.1)

@@ -3,6 +3,7 @@ use Rattle.std.proofs.Common.{◌≡◌, ◌<◌, ◌≤◌, ◌^◌, ℕ, zero,
 use Rattle.std.specs.List.{AllByRecursion}
 use Rattle.std.proofs.lemmas.List.{length-replicate}
 use Rattle.pdn_base.specs.declared.value.Value.{Value}
+use Rattle.pdn_base.specs.declared.site.Site.TheVariants.{B}
 use Rattle.pdn_gmw.specs.declared.views.GateView.{GateView}
 use Rattle.pdn_site.specs.Models.{Dirs}
 use Rattle.pdn_view.specs.declared.view.Party.TheVariants as parties
@@ -12,7 +13,7 @@ use Rattle.pdn_view.specs.declared.machine.Lack.TheVariants.{Nothing}
 use Rattle.pdn_view.specs.declared.machine.State.{State}
 use Rattle.pdn_view.specs.declared.machine.State.TheVariants.{Begin, Segments, Half, Words, Closed}
 use Rattle.pdn_view.specs.Views.{Part, ViewWords, words_of, dues_of, AreDirs, IsWord, IsGate, IsPart}
-use Rattle.pdn_view.specs.Lines.{spaced, word_line, gate_line, end_line, own_mark, other_mark, parts_lines}
+use Rattle.pdn_view.specs.Lines.{spaced, head_line, segment_line, word_line, gate_line, end_line, own_mark, other_mark, parts_lines}
 use Rattle.pdn_view.specs.Parts.{Opening, Body, Begun}
 use Rattle.pdn_view.specs.Machine.{opening, with_dirs, body_of, view_of, closed, lack, runs}
 use Rattle.pdn_view.proofs.GuessLaws.{HasValue}
@@ -50,7 +51,7 @@ units_way : (s : State) (b : Body) → Between s b → AllByRecursion HasValue b
 units_way s b on h =
     let ps : List Part = map zero_part b.todo in
     let e : Ended s (map spaced (parts_lines b.number ps)) (units_view b ps) =
-      parts_lead ps s b on (sym (zero_dues b.todo)) (subst (AllByRecursion HasValue) (sym (zero_dues b.todo)) h) (zero_are b.todo) in
+    parts_lead ps s b on (sym (zero_dues b.todo)) (subst (AllByRecursion HasValue) (sym (zero_dues b.todo)) h) (zero_are b.todo) in
     record {
       path = map spaced (parts_lines b.number ps) ++ spaced end_line ∷ [];
       view = view_of e.body;
@@ -110,10 +111,10 @@ words_way b g lines h =
     let w : Way (Words b g4) = units_way (Words b g4) (closed b g4) (between_units b g4 full) valued in
     record {
       path = map spaced (map (word_line (own_mark g.due)) owns) ++ (map spaced (map (word_line (other_mark g.due)) others)
-        ++ (map spaced (map gate_line gates) ++ (map spaced (map (word_line (codes "m")) masks) ++ w.path)));
+          ++ (map spaced (map gate_line gates) ++ (map spaced (map (word_line (codes "m")) masks) ++ w.path)));
       view = w.view;
       leads = runs_on (Words b g) (Words b g1) _ _ _ a (runs_on (Words b g1) (Words b g2) _ _ _ c
-        (runs_on (Words b g2) (Words b g3) _ _ _ d (runs_on (Words b g3) (Words b g4) _ _ _ e w.leads)));
+          (runs_on (Words b g2) (Words b g3) _ _ _ d (runs_on (Words b g3) (Words b g4) _ _ _ e w.leads)));
     }
 
 -- ---- from every state
@@ -123,9 +124,9 @@ half_way o a lines h =
     let after : Opening = with_dirs o a [] in
     let w : Way (Segments after) = opening_way after (all_more AreDirs o.dirs (record { a = a; b = [] }) h.0.dirs (record { a = h.1; b = record { order = refl; values = tt } })) in
     record {
-      path = _ ∷ w.path;
+      path = spaced (segment_line (length o.dirs) B []) ∷ w.path;
       view = w.view;
-      leads = runs_first (Half o a) (Segments after) _ _ w.path (whole_leads o a [] (record { order = refl; values = tt })) w.leads;
+      leads = runs_first (Half o a) (Segments after) (Closed w.view) (spaced (segment_line (length o.dirs) B [])) w.path (whole_leads o a [] (record { order = refl; values = tt })) w.leads;
     }
 
 begin_way : Way Begin
@@ -133,9 +134,9 @@ begin_way =
     let o : Opening = opening (parties.A, 0) in
     let w : Way (Segments o) = opening_way o tt in
     record {
-      path = _ ∷ w.path;
+      path = spaced (head_line parties.A 0) ∷ w.path;
       view = w.view;
-      leads = runs_first Begin (Segments o) _ _ w.path (head_leads parties.A 0 (omega arith)) w.leads;
+      leads = runs_first Begin (Segments o) (Closed w.view) (spaced (head_line parties.A 0)) w.path (head_leads parties.A 0 (omega arith)) w.leads;
     }
 
 pub way : (s : State) (lines : List (List ℕ)) → Holds s lines → Way s

@@ -94,8 +94,8 @@ segment_in line = in_order (values_in (drop 3 (words line)))
 unfoldable pub counts_at : ℕ → List ℕ → Option Counts
 counts_at place line =
     both (λ (x : ℕ × ℕ) (y : ℕ × ℕ). record { own = x.0; other = x.1; ands = y.0; masks = y.1 })
-      (both (λ own other. (own, other)) (number_of (word line place)) (number_of (word line (place + 2))))
-      (both (λ ands masks. (ands, masks)) (number_of (word line (place + 4))) (number_of (word line (place + 6))))
+    (both (λ own other. (own, other)) (number_of (word line place)) (number_of (word line (place + 2))))
+    (both (λ ands masks. (ands, masks)) (number_of (word line (place + 4))) (number_of (word line (place + 6))))
 
 abbrev pub unmasked : Counts → Counts
 unmasked c = record { own = c.own; other = c.other; ands = c.ands; masks = 0 }
@@ -112,5 +112,5 @@ counts_in Outputs line = mapped outputs (number_of (word line 3))
 unfoldable pub gate_in : List ℕ → Option GateView
 gate_in line =
     both (λ (x : ℕ × (ℕ × ℕ)) (y : ℕ × ℕ). record { a = x.0; b = x.1.0; c = x.1.1; d = y.0; e = y.1 })
-      (both (λ a x. (a, x)) (word_in (word line 1)) (both (λ b c. (b, c)) (word_in (word line 2)) (word_in (word line 3))))
-      (both (λ d e. (d, e)) (word_in (word line 4)) (word_in (word line 5)))
+    (both (λ a x. (a, x)) (word_in (word line 1)) (both (λ b c. (b, c)) (word_in (word line 2)) (word_in (word line 3))))
+    (both (λ d e. (d, e)) (word_in (word line 4)) (word_in (word line 5)))

@@ -146,12 +146,7 @@ fn put_part(alloc: Global, out: &mut Vec<u8>, number: u64, part: &UnitPart) -> R
     }
 }
 
-fn put_parts(
-    alloc: Global,
-    out: &mut Vec<u8>,
-    first: u64,
-    units: &[UnitPart],
-) -> Result<(), Memory>
+fn put_parts(alloc: Global, out: &mut Vec<u8>, first: u64, units: &[UnitPart]) -> Result<(), Memory>
     requires { first + length units.now < 2 ^ 64 }
     ensures { OnOk result (out.new.items ≡ out.old.items ++ lines_text (parts_lines first (map part_of units.now))) }
 {

@@ -67,7 +67,8 @@ pub fn one_count(alloc: Global) -> Result<String, Fail> {
 
 /// One plain unit of A, as B sees it: 104 lines.
 pub fn one_plain_unit(alloc: Global) -> Result<String, Fail> {
-    let head = "view b ticket 0\nsegment 0 a 1\nsegment 0 b\nunit 0 plain a 1\nunit 1 root own 0 other 33 ands 32 masks 33\n";
+    let head =
+        "view b ticket 0\nsegment 0 a 1\nsegment 0 b\nunit 0 plain a 1\nunit 1 root own 0 other 33 ands 32 masks 33\n";
     let text = String::from_str(alloc, head)?;
     let text = add_words(alloc, text, "x", "0000000000000001", 33)?;
     let text = add_words(alloc, text, "g", "00000000000000f0", 32)?;
@@ -77,7 +78,8 @@ pub fn one_plain_unit(alloc: Global) -> Result<String, Fail> {
 
 /// A secure unit of two tables, as A sees it.
 pub fn one_secure_unit(alloc: Global) -> Result<String, Fail> {
-    let head = "view a ticket 0\nsegment 0 a 3\nsegment 0 b 3\nunit 0 secure 3 own 66 other 66 ands 33 masks 0\n";
+    let head =
+        "view a ticket 0\nsegment 0 a 3\nsegment 0 b 3\nunit 0 secure 3 own 66 other 66 ands 33 masks 0\n";
     let text = String::from_str(alloc, head)?;
     let text = add_words(alloc, text, "o", "0000000000000001", 66)?;
     let text = add_words(alloc, text, "x", "0000000000000000", 66)?;

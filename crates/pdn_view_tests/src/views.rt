@@ -79,15 +79,23 @@ fn shapes(alloc: Global, text: &str) -> Result<String, Fail> {
 #[test]
 fn a_text_is_of_the_units_that_its_segments_call_for(rt: HostRuntime) -> Result<(), Fail> {
     let alloc = rt.alloc();
-    assert_eq!(rt; shapes(alloc, SITE)?.as_str(),
-        "plain a 1;plain b 2;secure 3 2 1 1 0;plain b 7380402532213850112;root 0 1 0 2;");
+    assert_eq!(rt;
+        shapes(alloc, SITE)?.as_str(),
+        "plain a 1;plain b 2;secure 3 2 1 1 0;plain b 7380402532213850112;root 0 1 0 2;"
+    );
     assert_eq!(rt; shapes(alloc, BROKER)?.as_str(), "outputs 2 2;");
     let text = one_count(alloc)?;
     assert_eq!(rt; shapes(alloc, text.as_str())?.as_str(), "root 1 1 96 33;");
     let text = one_plain_unit(alloc)?;
-    assert_eq!(rt; shapes(alloc, text.as_str())?.as_str(), "plain a 1;root 0 33 32 33;");
+    assert_eq!(rt;
+        shapes(alloc, text.as_str())?.as_str(),
+        "plain a 1;root 0 33 32 33;"
+    );
     let text = one_secure_unit(alloc)?;
-    assert_eq!(rt; shapes(alloc, text.as_str())?.as_str(), "secure 3 66 66 33 0;root 0 0 32 33;");
+    assert_eq!(rt;
+        shapes(alloc, text.as_str())?.as_str(),
+        "secure 3 66 66 33 0;root 0 0 32 33;"
+    );
     let text = opened_count(alloc)?;
     assert_eq!(rt; shapes(alloc, text.as_str())?.as_str(), "outputs 33 33;");
     Ok(())

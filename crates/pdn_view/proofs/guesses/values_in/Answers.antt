@@ -14,7 +14,7 @@ returns-in_default-value_in c =
 pub loop-left-smaller : goal.loop-left-smaller
 loop-left-smaller c =
     subst (λ (o : Option (Bor (List ℕ))). length (words_left c.rest-left.result) < length (words_left o)) (sym c.in-Some.is)
-      (fewer_words c.in-Some.text.now (words_left c.rest-left.result) c.rest-left.ensures)
+    (fewer_words c.in-Some.text.now (words_left c.rest-left.result) c.rest-left.ensures)
 
 pub loop-left-preserved : goal.loop-left-preserved
 loop-left-preserved c =
