@@ -10,3 +10,4 @@ mod Holding
 mod Leading
 mod Ways
 mod TextLaws
+mod UnitLaws

@@ -109,12 +109,17 @@ words_way b g lines h =
     let full : lack g4 ≡ Nothing = lacks_nothing g4 (omega (arith, own_full)) (omega (arith, other_full)) (omega (arith, gates_full)) (omega (arith, masks_full)) in
     let valued : AllByRecursion HasValue b.todo = all_behind HasValue (map (λ (p : Part). p.due) b.units) g.due b.todo (subst (AllByRecursion HasValue) (sym h.dues) (dues_valued b.party b.dirs h.dirs)) in
     let w : Way (Words b g4) = units_way (Words b g4) (closed b g4) (between_units b g4 full) valued in
+    let p1 : List (List ℕ) = map spaced (map (word_line (own_mark g.due)) owns) in
+    let p2 : List (List ℕ) = map spaced (map (word_line (other_mark g.due)) others) in
+    let p3 : List (List ℕ) = map spaced (map gate_line gates) in
+    let p4 : List (List ℕ) = map spaced (map (word_line (codes "m")) masks) in
+    let over : State = Closed w.view in
     record {
-      path = map spaced (map (word_line (own_mark g.due)) owns) ++ (map spaced (map (word_line (other_mark g.due)) others)
-          ++ (map spaced (map gate_line gates) ++ (map spaced (map (word_line (codes "m")) masks) ++ w.path)));
+      path = p1 ++ (p2 ++ (p3 ++ (p4 ++ w.path)));
       view = w.view;
-      leads = runs_on (Words b g) (Words b g1) _ _ _ a (runs_on (Words b g1) (Words b g2) _ _ _ c
-          (runs_on (Words b g2) (Words b g3) _ _ _ d (runs_on (Words b g3) (Words b g4) _ _ _ e w.leads)));
+      leads = runs_on (Words b g) (Words b g1) over p1 (p2 ++ (p3 ++ (p4 ++ w.path))) a
+          (runs_on (Words b g1) (Words b g2) over p2 (p3 ++ (p4 ++ w.path)) c
+          (runs_on (Words b g2) (Words b g3) over p3 (p4 ++ w.path) d (runs_on (Words b g3) (Words b g4) over p4 w.path e w.leads)));
     }
 
 -- ---- from every state

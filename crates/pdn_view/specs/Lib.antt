@@ -1,4 +1,5 @@
 pub mod Views
+pub mod Units
 pub mod Lines
 pub mod Guesses
 pub mod Cuts

@@ -23,7 +23,8 @@ pub fn head_in(line: &[u8]) -> Option<(Party, u64)>
 }
 
 fn is_below(first: &Value, second: &Value) -> bool
-    ensures { result ≡ (eqb (kind_of first.now) (kind_of second.now) && nat_lt (value_number first.now) (value_number second.now)) }
+    ensures { result ≡ (eqb (kind_of first.now) (kind_of second.now)
+        && nat_lt (value_number first.now) (value_number second.now)) }
 {
     let first = first.rank();
     let second = second.rank();

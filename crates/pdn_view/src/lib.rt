@@ -3,6 +3,7 @@
 
 mod due;
 mod guesses;
+mod laws;
 mod lines;
 mod machine;
 mod printing;
@@ -12,6 +13,7 @@ mod view_err;
 mod words;
 
 pub use due::{Counts, Due};
+pub use laws::units_are_those_of_the_directories;
 pub use printing::print_view;
 pub use reading::read_view;
 pub use view::{Party, UnitPart, View};

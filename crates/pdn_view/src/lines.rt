@@ -89,7 +89,8 @@ pub fn put_head(out: &mut Vec<u8>, party: Party, ticket: u64) -> Result<(), Memo
 
 // Values, each behind a blank.
 fn put_values(alloc: Global, out: &mut Vec<u8>, values: &[Value]) -> Result<(), Memory>
-    ensures { OnOk result (out.new.items ≡ out.old.items ++ flat_map (λ v. 32 ∷ value_text v) values.now) }
+    ensures { OnOk result
+        (out.new.items ≡ out.old.items ++ flat_map (λ v. 32 ∷ value_text v) values.now) }
 {
     for value in values {
         out.push(b' ')?;
@@ -107,7 +108,8 @@ pub fn put_segment(
     site: Site,
     values: &[Value],
 ) -> Result<(), Memory>
-    ensures { OnOk result (out.new.items ≡ out.old.items ++ spaced (segment_line number site values.now)) }
+    ensures { OnOk result
+        (out.new.items ≡ out.old.items ++ spaced (segment_line number site values.now)) }
 {
     put(out, b"segment ".as_slice())?;
     put_number(out, number)?;
@@ -130,7 +132,8 @@ fn put_counts(out: &mut Vec<u8>, counts: Counts) -> Result<(), Memory>
 }
 
 fn put_plain(alloc: Global, out: &mut Vec<u8>, site: Site, value: &Value) -> Result<(), Memory>
-    ensures { OnOk result (out.new.items ≡ out.old.items ++ codes " plain " ++ site_text site ++ codes " " ++ value_text value.now) }
+    ensures { OnOk result (out.new.items ≡ out.old.items
+        ++ codes " plain " ++ site_text site ++ codes " " ++ value_text value.now) }
 {
     put(out, b" plain ".as_slice())?;
     put_site(out, site)?;
@@ -139,7 +142,8 @@ fn put_plain(alloc: Global, out: &mut Vec<u8>, site: Site, value: &Value) -> Res
 }
 
 fn put_secure(alloc: Global, out: &mut Vec<u8>, value: &Value, counts: Counts) -> Result<(), Memory>
-    ensures { OnOk result (out.new.items ≡ out.old.items ++ codes " secure " ++ value_text value.now ++ codes " " ++ spaced (counts_text counts)) }
+    ensures { OnOk result (out.new.items ≡ out.old.items
+        ++ codes " secure " ++ value_text value.now ++ codes " " ++ spaced (counts_text counts)) }
 {
     put(out, b" secure ".as_slice())?;
     put_value(alloc, out, value)?;
@@ -155,7 +159,8 @@ pub fn put_unit(
     due: &Due,
     counts: Counts,
 ) -> Result<(), Memory>
-    ensures { OnOk result (out.new.items ≡ out.old.items ++ spaced (unit_line number due.now counts)) }
+    ensures { OnOk result
+        (out.new.items ≡ out.old.items ++ spaced (unit_line number due.now counts)) }
 {
     if let Due::Outputs = due {
         put(out, b"root ".as_slice())?;
@@ -177,7 +182,8 @@ pub fn put_unit(
 
 /// The line of a word.
 pub fn put_word_line(out: &mut Vec<u8>, mark: u8, word: &Word) -> Result<(), Memory>
-    ensures { OnOk result (out.new.items ≡ out.old.items ++ spaced (word_line (mark ∷ []) word.now)) }
+    ensures { OnOk result
+        (out.new.items ≡ out.old.items ++ spaced (word_line (mark ∷ []) word.now)) }
 {
     out.push(mark)?;
     out.push(b' ')?;

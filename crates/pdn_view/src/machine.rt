@@ -144,7 +144,8 @@ impl Opening {
         line: &[u8],
         text: &mut Vec<u8>,
     ) -> Result<Option<Values>, Memory>
-        ensures { IfOk result (λ values. values ≡ checked (segment_line (length self.now.dirs) site) line.now (segment_in line.now)) }
+        ensures { IfOk result (λ values. values ≡ checked
+            (segment_line (length self.now.dirs) site) line.now (segment_in line.now)) }
     {
         let Some(values) = segment_in(alloc, line)? else {
             return Ok(None);
@@ -177,7 +178,8 @@ impl Opening {
 
 impl Todo {
     fn next(&mut self) -> Option<Due>
-        ensures { MatchOption result ((self.old ≡ []) × (self.new ≡ self.old)) (λ due. self.old ≡ due ∷ self.new) }
+        ensures { MatchOption result ((self.old ≡ []) × (self.new ≡ self.old))
+            (λ due. self.old ≡ due ∷ self.new) }
     {
         let due = *self.dues.get(self.at)?;
         self.at += 1;
@@ -188,7 +190,9 @@ impl Todo {
 impl Body {
     // The next unit.
     fn next(&mut self) -> Option<Due>
-        ensures { MatchOption result ((self.old.todo ≡ []) × (self.new ≡ self.old)) (λ due. (todo : List Due) × (self.old.todo ≡ due ∷ todo) × (self.new ≡ onto self.old todo)) }
+        ensures { MatchOption result ((self.old.todo ≡ []) × (self.new ≡ self.old))
+            (λ due. (todo : List Due) × (self.old.todo ≡ due ∷ todo)
+            × (self.new ≡ onto self.old todo)) }
     {
         let due = self.todo.next()?;
         self.number += 1;
@@ -285,7 +289,8 @@ fn counts_of(
     line: &[u8],
     text: &mut Vec<u8>,
 ) -> Result<Option<Counts>, Memory>
-    ensures { IfOk result (λ counts. counts ≡ checked (unit_line number due.now) line.now (counts_in due.now line.now)) }
+    ensures { IfOk result (λ counts. counts ≡ checked
+        (unit_line number due.now) line.now (counts_in due.now line.now)) }
 {
     let Some(counts) = counts_in(due, line) else {
         return Ok(None);
@@ -433,7 +438,9 @@ impl Begun {
 
     // The line of a word that is lacking. It answers whether it is one.
     fn take(&mut self, lack: Lack, line: &[u8], text: &mut Vec<u8>) -> Result<bool, Memory>
-        ensures { IfOk result (λ taken. MatchBool taken (added self.old lack line.now ≡ Some self.new) (added self.old lack line.now ≡ None)) }
+        ensures { IfOk result (λ taken. MatchBool taken
+            (added self.old lack line.now ≡ Some self.new)
+            (added self.old lack line.now ≡ None)) }
     {
         match lack {
             Lack::Own => {

@@ -14,7 +14,8 @@ use pdn_site::SegDirs;
 use std::alloc::Global;
 
 fn put_word_lines(out: &mut Vec<u8>, mark: u8, words: &[Word]) -> Result<(), Memory>
-    ensures { OnOk result (out.new.items ≡ out.old.items ++ lines_text (map (word_line (mark ∷ [])) words.now)) }
+    ensures { OnOk result
+        (out.new.items ≡ out.old.items ++ lines_text (map (word_line (mark ∷ [])) words.now)) }
 {
     for word in words {
         put_word_line(out, mark, word)?;
@@ -40,7 +41,8 @@ fn put_segment_line(
     site: Site,
     dirs: &SegDirs,
 ) -> Result<(), Memory>
-    ensures { OnOk result (out.new.items ≡ out.old.items ++ line_text (segment_line number site (dir_of site dirs.now))) }
+    ensures { OnOk result (out.new.items ≡ out.old.items
+        ++ line_text (segment_line number site (dir_of site dirs.now))) }
 {
     let values = match site {
         Site::A => &dirs.a,
@@ -58,7 +60,8 @@ fn put_segment_lines(
     number: usize,
     dirs: &SegDirs,
 ) -> Result<(), Memory>
-    ensures { OnOk result (out.new.items ≡ out.old.items ++ lines_text (segment_line number A dirs.now.a ∷ segment_line number B dirs.now.b ∷ [])) }
+    ensures { OnOk result (out.new.items ≡ out.old.items
+        ++ lines_text (segment_line number A dirs.now.a ∷ segment_line number B dirs.now.b ∷ [])) }
 {
     put_segment_line(alloc, out, number, Site::A, dirs)?;
     put_segment_line(alloc, out, number, Site::B, dirs)
@@ -81,7 +84,8 @@ fn put_unit_line(
     due: &Due,
     counts: Counts,
 ) -> Result<(), Memory>
-    ensures { OnOk result (out.new.items ≡ out.old.items ++ line_text (unit_line number due.now counts)) }
+    ensures { OnOk result
+        (out.new.items ≡ out.old.items ++ line_text (unit_line number due.now counts)) }
 {
     put_unit(alloc, out, number, due, counts)?;
     out.push(b'\n')?;
@@ -97,7 +101,8 @@ fn put_run(
     words: &UnitView,
 ) -> Result<(), Memory>
     requires { IsRun due.now }
-    ensures { OnOk result (out.new.items ≡ out.old.items ++ lines_text (part_lines number (record { due = due.now; words = words.now }))) }
+    ensures { OnOk result (out.new.items ≡ out.old.items
+        ++ lines_text (part_lines number (record { due = due.now; words = words.now }))) }
 {
     put_unit_line(alloc, out, number, due, counts_of(words))?;
     put_word_lines(out, b'o', words.own.as_slice())?;
@@ -114,7 +119,9 @@ fn put_outputs(
     a: &[Word],
     b: &[Word],
 ) -> Result<(), Memory>
-    ensures { OnOk result (out.new.items ≡ out.old.items ++ lines_text (part_lines number (record { due = Outputs; words = words_of a.now b.now }))) }
+    ensures { OnOk result (out.new.items ≡ out.old.items
+        ++ lines_text (part_lines number
+        (record { due = Outputs; words = words_of a.now b.now }))) }
 {
     let counts = Counts {
         own: a.len() as u64,
@@ -128,7 +135,8 @@ fn put_outputs(
 }
 
 fn put_part(alloc: Global, out: &mut Vec<u8>, number: u64, part: &UnitPart) -> Result<(), Memory>
-    ensures { OnOk result (out.new.items ≡ out.old.items ++ lines_text (part_lines number (part_of part.now))) }
+    ensures { OnOk result
+        (out.new.items ≡ out.old.items ++ lines_text (part_lines number (part_of part.now))) }
 {
     match part {
         UnitPart::Plain(site, value) => {
@@ -148,7 +156,8 @@ fn put_part(alloc: Global, out: &mut Vec<u8>, number: u64, part: &UnitPart) -> R
 
 fn put_parts(alloc: Global, out: &mut Vec<u8>, first: u64, units: &[UnitPart]) -> Result<(), Memory>
     requires { first + length units.now < 2 ^ 64 }
-    ensures { OnOk result (out.new.items ≡ out.old.items ++ lines_text (parts_lines first (map part_of units.now))) }
+    ensures { OnOk result
+        (out.new.items ≡ out.old.items ++ lines_text (parts_lines first (map part_of units.now))) }
 {
     for i in 0..units.len() {
         put_part(alloc, out, first + i as u64, &units[i])?;

@@ -13,7 +13,8 @@ use pdn_base::{Code, Value, Word};
 
 /// What stands before the first such byte, and what stands behind it.
 pub fn cut(text: &[u8], byte: u8) -> Option<(&[u8], &[u8])>
-    ensures { MatchOption result (without byte text.now ≡ true) (λ p. IsCut byte text.now p.0.now p.1.now) }
+    ensures { MatchOption result (without byte text.now ≡ true)
+        (λ p. IsCut byte text.now p.0.now p.1.now) }
 {
     for i in 0..text.len() {
         if text[i] == byte {
