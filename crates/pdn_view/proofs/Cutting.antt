@@ -1,9 +1,9 @@
 -- Texts that are cut, and their words one by one.
-use Rattle.std.proofs.Common.{◌≡◌, ◌<◌, ◌≤◌, ℕ, zero, suc, ◌+◌, ◌-◌, true, List, [], ◌∷◌, ◌++◌, take, drop, length, get_or, Option, Some, None, refl, sym, ap, subst, ◌∙◌, append_assoc, arith}
+use Rattle.std.proofs.Common.{◌≡◌, ◌<◌, ℕ, zero, suc, ◌+◌, ◌-◌, true, List, [], ◌∷◌, ◌++◌, take, drop, length, get_or, Option, Some, None, refl, sym, ap, ◌∙◌, append_assoc, arith}
 use Rattle.std.proofs.lemmas.List.{take-append-drop, take_rest, drop-drop}
 use Rattle.std.proofs.lemmas.List.Splits.{length-slice_split}
 use Rattle.pdn_base.specs.declared.value.Value.{Value}
-use Rattle.pdn_view.specs.Guesses.{is_blank, mapped, both, words, word, value_in, values_in}
+use Rattle.pdn_view.specs.Guesses.{is_blank, mapped, both, words, value_in, values_in}
 use Rattle.pdn_view.specs.Cuts.{without, IsCut}
 use Rattle.pdn_view.proofs.Splits.{split_at, split_none}
 

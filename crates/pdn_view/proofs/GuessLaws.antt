@@ -1,7 +1,7 @@
 -- Each line of a view says what it was written of.
-use Rattle.std.proofs.Common.{◌≡◌, ◌<◌, ◌^◌, ℕ, ◌+◌, Bool, true, false, cond, List, [], ◌∷◌, ◌++◌, map, drop, length, Option, Some, None, refl, sym, ap, subst, ◌∙◌, rules, arith}
-use Rattle.std.specs.Prelude.{◌&&◌, get_or, codes, decimal}
-use Rattle.std.specs.List.{list_all, AllByRecursion}
+use Rattle.std.proofs.Common.{◌≡◌, ◌<◌, ◌^◌, ℕ, ◌+◌, true, List, [], ◌∷◌, map, drop, Option, Some, None, refl, sym, ap, subst, ◌∙◌, arith}
+use Rattle.std.specs.Prelude.{get_or, codes, decimal}
+use Rattle.std.specs.List.{AllByRecursion}
 use Rattle.pdn_base.specs.declared.value.Value.{Value}
 use Rattle.pdn_base.specs.declared.site.Site.{Site}
 use Rattle.pdn_base.specs.Texts.{site_text}
@@ -11,9 +11,9 @@ use Rattle.pdn_view.specs.declared.due.Due.{Due}
 use Rattle.pdn_view.specs.declared.due.Due.TheVariants.{Plain, Secure, Root, Outputs}
 use Rattle.pdn_view.specs.declared.due.Counts.{Counts}
 use Rattle.pdn_view.specs.Views.{ascends, IsValue, IsDirectory, IsWord, IsGate, AreCounts, Fits, no_counts}
-use Rattle.pdn_view.specs.Lines.{Line, party_text, value_text, word_text, spaced, head_line, segment_line, counts_text, unit_line, word_line, gate_line, end_line}
-use Rattle.pdn_view.specs.Guesses.{both, mapped, words, word, number_of, word_in, party_in, head_in, values_in, value_in, in_order, segment_in, counts_at, unmasked, outputs, counts_in, gate_in}
-use Rattle.pdn_view.proofs.Checks.{and_true, both_true, both_some, mapped_some, cond_some}
+use Rattle.pdn_view.specs.Lines.{Line, party_text, value_text, word_text, spaced, head_line, segment_line, counts_text, unit_line, word_line, gate_line}
+use Rattle.pdn_view.specs.Guesses.{mapped, words, word, number_of, word_in, party_in, head_in, values_in, value_in, in_order, segment_in, counts_at, unmasked, outputs, counts_in, gate_in}
+use Rattle.pdn_view.proofs.Checks.{both_true, both_some, mapped_some, cond_some}
 use Rattle.pdn_view.proofs.Solid.{solid, solid_decimal, solid_value, solid_word, solid_site, solid_party}
 use Rattle.pdn_view.proofs.Splits.{solids, words_spaced}
 use Rattle.pdn_view.proofs.FieldLaws.{number_again, number_fits, value_again, value_fits, word_again, word_fits, party_again}

@@ -1,5 +1,5 @@
 -- What the lines so far are, at each state.
-use Rattle.std.proofs.Common.{◌≡◌, ◌<◌, ◌≤◌, ◌^◌, ℕ, ◌+◌, Bool, true, false, cond, ltb, List, [], ◌∷◌, ◌++◌, map, length, Option, Some, None, refl, sym, ap, subst, ◌∙◌, append_assoc, arith, length-append}
+use Rattle.std.proofs.Common.{◌≡◌, ◌<◌, ◌≤◌, ◌^◌, ℕ, ◌+◌, Bool, true, false, cond, List, [], ◌∷◌, ◌++◌, map, length, Option, Some, None, refl, sym, ap, subst, ◌∙◌, append_assoc, arith, length-append}
 use Rattle.std.specs.Prelude.{codes, nat_lt}
 use Rattle.std.specs.Str.{bytes_eq}
 use Rattle.std.specs.List.{AllByRecursion}
@@ -21,8 +21,8 @@ use Rattle.pdn_view.specs.declared.machine.State.TheVariants.{Begin, Segments, H
 use Rattle.pdn_view.specs.Views.{Part, ViewWords, words_of, counts_of, dues_of, first_number, AreDirs, IsDirectory, IsWord, IsGate, AreWords, AreCounts, Fits, IsPart, IsView}
 use Rattle.pdn_view.specs.Lines.{Line, spaced, head_line, segment_line, segment_lines, unit_line, word_line, gate_line, end_line, own_mark, other_mark, words_lines, part_lines, parts_lines, view_lines}
 use Rattle.pdn_view.specs.Parts.{Opening, Body, Begun}
-use Rattle.pdn_view.specs.Guesses.{mapped, word, head_in, segment_in, counts_in, word_in, gate_in}
-use Rattle.pdn_view.specs.Machine.{checked, opening, begins, with_dirs, body_of, view_of, kept, closed, begun, onto, opens, next_unit, word_of, gate_of, with_words, add_own, add_other, add_gate, add_mask, lack, added, lacking, next_word, half, whole, next, onward, runs}
+use Rattle.pdn_view.specs.Guesses.{word, head_in, segment_in, counts_in, word_in, gate_in}
+use Rattle.pdn_view.specs.Machine.{opening, begins, with_dirs, body_of, view_of, kept, closed, begun, onto, opens, next_unit, word_of, gate_of, with_words, add_own, add_other, add_gate, add_mask, lack, lacking, half, whole, next, onward, runs}
 use Rattle.pdn_view.proofs.Checks.{mapped_some, cond_some, checked_ok, same_bytes}
 use Rattle.pdn_view.proofs.LineLaws.{segments_more, parts_more}
 use Rattle.pdn_view.proofs.GuessLaws.{head_fits, segment_fits, unit_fits, gate_fits}

@@ -1,10 +1,10 @@
 -- The lines of a view lead to the view.
-use Rattle.std.proofs.Common.{◌≡◌, ◌<◌, ◌≤◌, ◌^◌, ℕ, zero, suc, ◌+◌, ◌-◌, Bool, true, false, cond, ltb, List, [], ◌∷◌, ◌++◌, map, length, replicate, Option, Some, None, Ordering, Less, Equal, Greater, refl, sym, ap, subst, ◌∙◌, append_assoc, arith, length-append}
-use Rattle.std.specs.Prelude.{codes, decimal, nat_lt}
+use Rattle.std.proofs.Common.{◌≡◌, ◌<◌, ◌≤◌, ◌^◌, ℕ, ◌+◌, ◌-◌, Bool, true, false, cond, List, [], ◌∷◌, ◌++◌, map, length, Option, Some, None, Ordering, Less, Equal, Greater, refl, sym, ap, subst, ◌∙◌, append_assoc, arith, length-append}
+use Rattle.std.specs.Prelude.{codes, decimal}
 use Rattle.std.specs.Str.{bytes_eq}
-use Rattle.std.specs.List.{AllByRecursion, flat_map, list_all}
-use Rattle.std.proofs.lemmas.Bool.{lt-ltb, le-ltb, ltb-true, ltb-false}
-use Rattle.std.proofs.lemmas.List.{append-nil, map-append, length-replicate}
+use Rattle.std.specs.List.{AllByRecursion, list_all}
+use Rattle.std.proofs.lemmas.Bool.{lt-ltb, le-ltb}
+use Rattle.std.proofs.lemmas.List.{append-nil, map-append}
 use Rattle.std.proofs.lemmas.List.Concat.{flat_map-cons}
 use Rattle.pdn_base.specs.declared.value.Value.{Value}
 use Rattle.pdn_base.specs.declared.site.Site.{Site}
@@ -23,11 +23,11 @@ use Rattle.pdn_view.specs.declared.machine.Lack.{Lack}
 use Rattle.pdn_view.specs.declared.machine.Lack.TheVariants.{Own, Other, Gates, Masks, Nothing}
 use Rattle.pdn_view.specs.declared.machine.State.{State}
 use Rattle.pdn_view.specs.declared.machine.State.TheVariants.{Begin, Segments, Half, Words, Closed}
-use Rattle.pdn_view.specs.Views.{Part, ViewWords, words_of, counts_of, next_slice, slices_from, slices, all_slices, dues_of, first_number, AreDirs, IsDirectory, IsValue, IsWord, IsGate, AreWords, AreCounts, Fits, IsPart, IsView}
+use Rattle.pdn_view.specs.Views.{Part, ViewWords, counts_of, next_slice, slices_from, slices, all_slices, dues_of, first_number, AreDirs, IsDirectory, IsValue, IsWord, IsGate, AreWords, IsPart, IsView}
 use Rattle.pdn_view.specs.Lines.{Line, value_text, counts_text, spaced, head_line, segment_line, segment_lines, unit_line, word_line, gate_line, end_line, own_mark, other_mark, words_lines, part_lines, parts_lines, view_lines}
 use Rattle.pdn_view.specs.Parts.{Opening, Body, Begun}
 use Rattle.pdn_view.specs.Guesses.{mapped, word, head_in, segment_in, counts_in, word_in, gate_in}
-use Rattle.pdn_view.specs.Machine.{checked, opening, begins, with_dirs, body_of, view_of, kept, closed, begun, onto, opens, next_unit, word_of, gate_of, with_words, add_own, add_other, add_gate, add_mask, lack, added, lacking, next_word, half, whole, next, onward, runs}
+use Rattle.pdn_view.specs.Machine.{opening, with_dirs, body_of, view_of, kept, closed, begun, onto, opens, next_unit, word_of, gate_of, with_words, add_own, add_other, add_gate, add_mask, lack, lacking, half, next, onward, runs}
 use Rattle.pdn_view.specs.Faults.{is_line}
 use Rattle.pdn_view.proofs.Checks.{both_true, checked_same}
 use Rattle.pdn_view.proofs.Solid.{solid}

@@ -1,13 +1,12 @@
 -- Lines cut into words, and texts into lines.
-use Rattle.std.proofs.Common.{◌≡◌, ℕ, Bool, true, false, cond, eqb, List, [], ◌∷◌, ◌++◌, drop, refl, sym, ap, ◌∙◌, append_assoc, arith}
-use Rattle.std.specs.Prelude.{not, ◌&&◌, get_or}
-use Rattle.std.specs.List.{list_all, flat_map, slice_split, onto_first, join_with_byte}
+use Rattle.std.proofs.Common.{◌≡◌, ℕ, Bool, true, false, eqb, List, [], ◌∷◌, ◌++◌, refl, ap, ◌∙◌, append_assoc, arith}
+use Rattle.std.specs.Prelude.{not}
+use Rattle.std.specs.List.{list_all, slice_split, onto_first}
 use Rattle.std.proofs.lemmas.Bool.{eq-eqb}
-use Rattle.std.proofs.lemmas.List.{append-nil}
 use Rattle.std.proofs.lemmas.List.Folds.{list_all-append}
 use Rattle.std.proofs.lemmas.List.Splits.{slice_split-cons_yes, slice_split-cons_no}
 use Rattle.pdn_view.specs.Lines.{Line, spaced}
-use Rattle.pdn_view.specs.Guesses.{is_blank, words, word}
+use Rattle.pdn_view.specs.Guesses.{words}
 use Rattle.pdn_view.specs.Cuts.{without}
 use Rattle.pdn_view.specs.Faults.{ended, ended_lines, is_line}
 use Rattle.pdn_view.proofs.Checks.{and_true, both_true}

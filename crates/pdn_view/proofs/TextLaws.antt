@@ -1,8 +1,8 @@
 -- What reading a text answers.
-use Rattle.std.proofs.Common.{◌≡◌, ◌<◌, ◌≤◌, ◌^◌, ℕ, ◌+◌, ◌-◌, Bool, true, false, eqb, List, [], ◌∷◌, ◌++◌, map, length, Option, Some, None, Result, Ok, Err, refl, sym, ap, subst, ◌∙◌, append_assoc, arith, length-append}
-use Rattle.std.specs.Prelude.{not, ◌&&◌, IfOk, IfErr}
-use Rattle.std.specs.List.{list_all, flat_map, slice_split}
-use Rattle.std.proofs.lemmas.Bool.{eq-eqb, false≢true}
+use Rattle.std.proofs.Common.{◌≡◌, ◌<◌, ◌≤◌, ℕ, ◌+◌, ◌-◌, true, false, eqb, List, [], ◌∷◌, ◌++◌, map, length, Some, None, Result, Ok, Err, refl, sym, ap, subst, ◌∙◌, append_assoc, arith, length-append}
+use Rattle.std.specs.Prelude.{not, IfOk, IfErr}
+use Rattle.std.specs.List.{list_all, slice_split}
+use Rattle.std.proofs.lemmas.Bool.{false≢true}
 use Rattle.std.proofs.lemmas.List.{append-nil}
 use Rattle.std.proofs.lemmas.List.Concat.{flat_map-cons}
 use Rattle.std.proofs.lemmas.List.Folds.{flat_map-map, list_all-append}
@@ -13,7 +13,7 @@ use Rattle.pdn_view.specs.declared.view_err.ViewErr.TheVariants.{At, Memory}
 use Rattle.pdn_view.specs.declared.machine.State.{State}
 use Rattle.pdn_view.specs.declared.machine.State.TheVariants.{Begin, Closed}
 use Rattle.pdn_view.specs.Views.{ViewWords, IsView}
-use Rattle.pdn_view.specs.Lines.{line_text, spaced, view_lines, view_text}
+use Rattle.pdn_view.specs.Lines.{spaced, view_lines, view_text}
 use Rattle.pdn_view.specs.Machine.{next, onward, runs}
 use Rattle.pdn_view.specs.Cuts.{without, IsCut}
 use Rattle.pdn_view.specs.Faults.{ended, ended_lines, is_line, IsFirstFault, IsFault, Gives, Finishes}

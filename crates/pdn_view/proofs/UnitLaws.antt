@@ -1,5 +1,5 @@
 -- The units of a segment, merged from two ascending directories, are those of the values in either.
-use Rattle.std.proofs.Common.{◌≡◌, ◌<◌, ℕ, Bool, true, false, cond, eqb, ltb, List, [], ◌∷◌, ◌++◌, map, Ordering, Less, Equal, Greater, refl, sym, ap, subst, ◌∙◌, arith}
+use Rattle.std.proofs.Common.{◌≡◌, ℕ, Bool, true, false, cond, eqb, List, [], ◌∷◌, ◌++◌, map, Ordering, Less, Equal, Greater, refl, sym, ap, subst, ◌∙◌, arith}
 use Rattle.std.specs.Prelude.{◌&&◌, ◌||◌, nat_lt}
 use Rattle.std.specs.List.{AllByRecursion}
 use Rattle.std.specs.Ordering.{nat_cmp, is_eq, ordering_reverse, ordering_then}
@@ -15,7 +15,7 @@ use Rattle.pdn_site.specs.Models.{Dirs}
 use Rattle.pdn_site.specs.Directories.{placed_by, placed, ascending, stands_in, unit_values}
 use Rattle.pdn_view.specs.declared.due.Due.{Due}
 use Rattle.pdn_view.specs.declared.due.Due.TheVariants.{Plain, Secure}
-use Rattle.pdn_view.specs.Views.{next_slice, slices_from, slices, ascends_from, ascends, AreDirs}
+use Rattle.pdn_view.specs.Views.{next_slice, slices, ascends_from, ascends, AreDirs}
 use Rattle.pdn_view.specs.Units.{due_by, unit_due}
 use Rattle.pdn_view.proofs.Checks.{and_true}
 

@@ -1,18 +1,17 @@
 -- From every state that lines lead to, some lines lead to a view.
-use Rattle.std.proofs.Common.{◌≡◌, ◌<◌, ◌≤◌, ◌^◌, ℕ, zero, suc, ◌+◌, ◌-◌, List, [], ◌∷◌, ◌++◌, map, length, replicate, Option, Some, None, refl, sym, ap, subst, ◌∙◌, arith, length-append}
+use Rattle.std.proofs.Common.{◌≡◌, ◌≤◌, ℕ, zero, suc, ◌+◌, ◌-◌, List, [], ◌∷◌, ◌++◌, map, length, replicate, Some, refl, sym, ap, subst, arith, length-append}
 use Rattle.std.specs.List.{AllByRecursion}
 use Rattle.std.proofs.lemmas.List.{length-replicate}
 use Rattle.pdn_base.specs.declared.value.Value.{Value}
 use Rattle.pdn_base.specs.declared.site.Site.TheVariants.{B}
 use Rattle.pdn_gmw.specs.declared.views.GateView.{GateView}
-use Rattle.pdn_site.specs.Models.{Dirs}
 use Rattle.pdn_view.specs.declared.view.Party.TheVariants as parties
 use Rattle.pdn_view.specs.declared.due.Due.{Due}
 use Rattle.pdn_view.specs.declared.due.Due.TheVariants.{Plain, Secure, Root, Outputs}
 use Rattle.pdn_view.specs.declared.machine.Lack.TheVariants.{Nothing}
 use Rattle.pdn_view.specs.declared.machine.State.{State}
 use Rattle.pdn_view.specs.declared.machine.State.TheVariants.{Begin, Segments, Half, Words, Closed}
-use Rattle.pdn_view.specs.Views.{Part, ViewWords, words_of, dues_of, AreDirs, IsWord, IsGate, IsPart}
+use Rattle.pdn_view.specs.Views.{Part, ViewWords, words_of, AreDirs, IsWord, IsGate, IsPart}
 use Rattle.pdn_view.specs.Lines.{spaced, head_line, segment_line, word_line, gate_line, end_line, own_mark, other_mark, parts_lines}
 use Rattle.pdn_view.specs.Parts.{Opening, Body, Begun}
 use Rattle.pdn_view.specs.Machine.{opening, with_dirs, body_of, view_of, closed, lack, runs}

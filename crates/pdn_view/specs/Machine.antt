@@ -5,7 +5,6 @@ use Rattle.pdn_base.specs.declared.value.Value.{Value}
 use Rattle.pdn_base.specs.declared.site.Site.TheVariants.{A, B}
 use Rattle.pdn_gmw.specs.declared.views.GateView.{GateView}
 use Rattle.pdn_gmw.specs.Shares.{UnitWords}
-use Rattle.pdn_site.specs.Models.{Dirs}
 use Rattle.pdn_view.specs.declared.view.Party.{Party}
 use Rattle.pdn_view.specs.declared.due.Due.{Due}
 use Rattle.pdn_view.specs.declared.due.Due.TheVariants.{Plain, Secure, Root, Outputs}
@@ -14,7 +13,7 @@ use Rattle.pdn_view.specs.declared.machine.Lack.{Lack}
 use Rattle.pdn_view.specs.declared.machine.Lack.TheVariants.{Own, Other, Gates, Masks, Nothing}
 use Rattle.pdn_view.specs.declared.machine.State.{State}
 use Rattle.pdn_view.specs.declared.machine.State.TheVariants.{Begin, Segments, Half, Words, Closed}
-use Rattle.pdn_view.specs.Views.{Part, ViewWords, words_of, dues_of, first_number}
+use Rattle.pdn_view.specs.Views.{ViewWords, words_of, dues_of, first_number}
 use Rattle.pdn_view.specs.Parts.{Opening, Body, Begun}
 use Rattle.pdn_view.specs.Lines.{Line, spaced, head_line, segment_line, unit_line, word_line, gate_line, end_line, own_mark, other_mark}
 use Rattle.pdn_view.specs.Guesses.{mapped, word, head_in, segment_in, counts_in, word_in, gate_in}

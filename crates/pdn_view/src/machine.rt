@@ -1,9 +1,9 @@
 //! The reading of a view as a machine: what may come next after the lines so far, and where a line leads.
-ghost use Rattle.std.specs.Prelude.{◌≡◌, ◌+◌, ◌∷◌, ◌++◌, ◌<◌, ◌^◌, ◌≤◌, [], codes, length, Some, None, IfOk, OnOk, MatchBool, MatchOption, List};
+ghost use Rattle.std.specs.Prelude.{◌≡◌, ◌+◌, ◌∷◌, ◌<◌, ◌^◌, ◌≤◌, [], length, Some, None, IfOk, OnOk, MatchBool, MatchOption, List};
 ghost use Rattle.pdn_view.specs.declared.due.Due.{Due};
 ghost use Rattle.pdn_view.specs.declared.due.Due.TheVariants.{Outputs};
 ghost use Rattle.pdn_view.specs.Views.{part_of, words_of};
-ghost use Rattle.pdn_view.specs.Lines.{head_line, segment_line, unit_line, own_mark, other_mark};
+ghost use Rattle.pdn_view.specs.Lines.{segment_line, unit_line, own_mark, other_mark};
 ghost use Rattle.pdn_view.specs.Guesses.{head_in, segment_in, counts_in};
 ghost use Rattle.pdn_view.specs.Machine.{begins, body_of, with_dirs, next, next_unit, opens, begun, kept, closed, onto, view_of, add_own, add_other, add_gate, add_mask, lack, added, next_word, word_of, gate_of, checked, half, whole};
 

@@ -1,4 +1,4 @@
-use Rattle.std.proofs.Common.{◌≡◌, ◌+◌, ◌++◌, length}
+use Rattle.std.proofs.Common.{length}
 use Rattle.pdn_view.proofs.TextLaws.{Read}
 use Rattle.pdn_view.proofs.reading.read_view.Given as goal
 
