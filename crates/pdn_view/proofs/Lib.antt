@@ -1,0 +1,13 @@
+mod Checks
+mod Solid
+mod Splits
+mod LineLaws
+mod DueLaws
+mod Cutting
+mod FieldLaws
+mod GuessLaws
+mod Holding
+mod Leading
+mod Ways
+mod TextLaws
+mod UnitLaws
