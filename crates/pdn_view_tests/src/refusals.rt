@@ -127,7 +127,11 @@ fn a_proper_prefix_leaves_the_grammar_at_the_line_that_is_cut(rt: HostRuntime) -
         let bytes = text.as_bytes();
         for end in 0..bytes.len() {
             let line = fault(alloc, &bytes[..end])?;
-            assert_eq!(rt; line as usize, feeds(&bytes[..end]) + 1, "at {end}");
+            assert_eq!(rt;
+                line as usize,
+                feeds(&bytes[..end]).saturating_add(1),
+                "at {end}"
+            );
         }
     }
     let text = one_plain_unit(alloc)?;
