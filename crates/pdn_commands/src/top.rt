@@ -68,25 +68,6 @@ pub fn pdn<R: Threads + Sync, W: Outside, D: Deal>(
     // The count of faults of an object never falls.
     ensures later { NotFallen (W.state world.old).counts (W.state world.new).counts }
 {
-    perform(rt, alloc, words, world, deal)
-}
-
-fn perform<R: Threads + Sync, W: Outside, D: Deal>(
-    rt: &R,
-    alloc: Global,
-    words: &[String],
-    world: &mut W,
-    deal: &D,
-) -> Status
-    ensures answers { Answered (W.state world.old) (W.state world.new)
-        (script (map string_bytes words.now)) result }
-    ensures kept_a { loads A (task_of (map string_bytes words.now)) ≡ false
-        → (W.state world.new).told.a ≡ (W.state world.old).told.a }
-    ensures kept_b { loads B (task_of (map string_bytes words.now)) ≡ false
-        → (W.state world.new).told.b ≡ (W.state world.old).told.b }
-    ensures spared { result ≡ Status.Memory → (W.state world.new).told ≡ (W.state world.old).told }
-    ensures later { NotFallen (W.state world.old).counts (W.state world.new).counts }
-{
     let came = follow(rt, alloc, words, world, deal);
     world.conclude(came)
 }
