@@ -125,7 +125,7 @@ pub enum State {
 }
 
 impl Opening {
-    // Both lines of a segment more.
+    // One segment more.
     fn add(&mut self, a: Values, b: Values) -> Result<(), Memory>
         ensures { OnOk result (self.new ≡ with_dirs self.old a b) }
     {
@@ -136,7 +136,7 @@ impl Opening {
         Ok(())
     }
 
-    // Which line of a segment comes next, as it is read.
+    // The values of a site in the next segment, where the line says them.
     fn segment(
         &self,
         alloc: Global,
@@ -281,7 +281,7 @@ fn begins(alloc: Global, line: &[u8], text: &mut Vec<u8>) -> Result<Option<State
     })))
 }
 
-// How many words a unit's line says.
+// How many words a unit has, where the line is its own.
 fn counts_of(
     alloc: Global,
     number: u64,
