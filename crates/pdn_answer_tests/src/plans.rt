@@ -1,11 +1,13 @@
 //! Schemas and plans of short texts.
 ghost use Rattle.std.specs.Prelude.{◌≡◌, true, IfOk};
+ghost use Rattle.std.specs.List.{AllByRecursion};
+ghost use Rattle.pdn_plan.specs.Answer.{IsWritten};
 ghost use Rattle.pdn_tree.specs.Shapes.{shape};
 
 use pdn_base::Memory;
 use pdn_plan::{Plan, bind, texts_are_written};
 use pdn_schema::{Schema, read_schema};
-use pdn_sql::read_queries;
+use pdn_sql::{Query, read_queries};
 use std::alloc::Global;
 
 pub fn schema_of(alloc: Global, text: &str) -> Result<Schema, Memory> {
@@ -27,7 +29,7 @@ pub fn plan_of(alloc: Global, schema: &Schema, sql: &str) -> Result<Plan, Memory
     }
 }
 
-/// The plan of a query, as `plan_of` gives it, whose tree is known to be sound.
+/// The plan of a query of a text, whose tree is known to be sound.
 pub fn sound_plan(alloc: Global, schema: &Schema, sql: &str) -> Result<Plan, Memory>
     ensures { IfOk result (λ plan. (shape schema.now plan.root).sound ≡ true) }
 {
@@ -36,8 +38,26 @@ pub fn sound_plan(alloc: Global, schema: &Schema, sql: &str) -> Result<Plan, Mem
     }
     let queries = read_queries(alloc, sql.as_bytes(), 16).map_err(|_| Memory)?;
     texts_are_written(sql.as_bytes(), 16);
-    match queries.as_slice() {
-        [query, ..] => bind(alloc, schema, query).map_err(|_| Memory),
+    first_plan(alloc, schema, &queries)
+}
+
+// The plan of the first query.
+fn first_plan(alloc: Global, schema: &Schema, queries: &[Query]) -> Result<Plan, Memory>
+    requires { AllByRecursion IsWritten queries.now }
+    ensures { IfOk result (λ plan. (shape schema.now plan.root).sound ≡ true) }
+{
+    match queries {
+        [query, ..] => written_plan(alloc, schema, query),
         [] => Err(Memory),
+    }
+}
+
+fn written_plan(alloc: Global, schema: &Schema, query: &Query) -> Result<Plan, Memory>
+    requires { IsWritten query.now }
+    ensures { IfOk result (λ plan. (shape schema.now plan.root).sound ≡ true) }
+{
+    match bind(alloc, schema, query) {
+        Ok(plan) => Ok(plan),
+        Err(_) => Err(Memory),
     }
 }
