@@ -6,6 +6,7 @@ mod answer_text;
 mod binding;
 mod columns;
 mod tables;
+mod tickets;
 mod who;
 mod world;
 
@@ -13,5 +14,5 @@ pub use answer::{Numbered, query_answer};
 pub use answer_text::query_name;
 pub use binding::bound;
 pub use columns::column_name;
-pub use who::who_of;
+pub use who::{failed_line, who_of};
 pub use world::{Batch, Outside, World, say};

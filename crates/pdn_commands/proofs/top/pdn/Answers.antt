@@ -5,6 +5,7 @@ use Rattle.pdn_script.proofs.Ends.{completes}
 use Rattle.pdn_commands.specs.Commands.{script}
 use Rattle.pdn_query.specs.Questions.{questions}
 use Rattle.pdn_query.specs.World.{WorldModel, RoseIn}
+use Rattle.pdn_query.proofs.DeskCalls.{follows_asked}
 use Rattle.pdn_commands.proofs.Causes.{caused, does}
 use Rattle.pdn_commands.proofs.top.pdn.Goals as goal
 
@@ -31,3 +32,9 @@ returns-clause-due g c =
     let old : WorldModel = g.W.Outside.state c.args.world.now in
     let new : WorldModel = g.W.Outside.state c.perform.new.world in
     λ calm. written_due questions (RoseIn old.counts new.counts) calm old.told (script (map string_bytes c.args.words.now)) old.written new.written _ new.told c.perform.ensures.answers
+
+pub returns-clause-asked : goal.returns-clause-asked
+returns-clause-asked g c =
+    let old : WorldModel = g.W.Outside.state c.args.world.now in
+    let new : WorldModel = g.W.Outside.state c.perform.new.world in
+    follows_asked (RoseIn old.counts new.counts) old.told (script (map string_bytes c.args.words.now)) _ _ new.told c.perform.ensures.answers.2
