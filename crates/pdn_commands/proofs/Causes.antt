@@ -373,7 +373,7 @@ queries_text told Q s number before (query ∷ queries) done = let now : Told = 
     bound_text now Q s query _ (λ plan binds. planned_text now Q s number query _ plan binds (λ ticket text few next is.
     subst (λ (desk : Option DeskHeld). Texts (with_desk told desk) (λ more after. Q (text ++ more) after) (queries_script s (number + 1) queries)) (sym (given_next told.desk before ticket few next))
     (queries_text told (λ more after. Q (text ++ more) after) s (number + 1) (before + 1) queries (λ more are.
-    subst (λ (count : ℕ). Q (text ++ more) (with_desk told (with_given count told.desk))) (plus_one before (length queries))
+    subst (λ (count : ℕ). Q (text ++ more) (with_desk told (with_given count told.desk))) (sym (plus_one before (length queries)))
     (done (text ++ more) (ticket, text, more, refl, is_given told.desk before ticket few next, is, are))))))
 
 module _ (told : Told) (words : List (List ℕ)) where

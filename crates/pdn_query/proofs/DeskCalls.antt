@@ -8,7 +8,7 @@ use Rattle.pdn_base.specs.declared.status.Who.{Who}
 use Rattle.pdn_keeper.specs.Batches.{BatchHeld}
 use Rattle.pdn_keeper.specs.declared.site_keeper.KeepErr.TheVariants.{Failed}
 use Rattle.pdn_desk_keeper.specs.Desks.{DeskHeld}
-use Rattle.pdn_query.specs.Questions.{Question, File, Kept, Batch, Ticket, SchemaIn, QueriesIn, Bound, RowsIn, Valid, Reply, Told, Answer, New, Again, Differs, OverRows, OverPer, Gives, IsNext, after, after_batch, AfterFault, with_new}
+use Rattle.pdn_query.specs.Questions.{Question, File, Kept, Batch, Ticket, SchemaIn, QueriesIn, Bound, RowsIn, Valid, Reply, Told, Answer, New, Again, Differs, OverRows, OverPer, Gives, after, after_batch, AfterFault, with_new}
 use Rattle.pdn_query.specs.Script.{Script, Finish, Refuse, Say, Ask}
 use Rattle.pdn_query.specs.DeskCalls.{AsksTickets}
 use Rattle.pdn_query.specs.Walk.{Goes, End, Follows}
@@ -16,9 +16,6 @@ use Rattle.pdn_query.specs.Walk.{Goes, End, Follows}
 -- nothing was asked
 none_asked : (old new : Option DeskHeld) → new ≡ old → AsksTickets old new
 none_asked old new e = ([], e)
-
-if_given : (desk : Option DeskHeld) (ticket : ℕ) → IsNext desk ticket → IfSome desk (λ held. ticket ≡ held.next)
-if_given desk ticket is = is.1
 
 if_failed : (desk : Option DeskHeld) → IfSome desk (λ held. ⊤)
 if_failed None = tt
@@ -41,8 +38,8 @@ fault_asked told now (File name) e = none_asked told.desk now.desk (ap (λ (t : 
 fault_asked told now (Kept site name) e = none_asked told.desk now.desk (ap (λ (t : Told). t.desk) e)
 fault_asked told now (Batch site t number rows) (inl e) = none_asked told.desk now.desk (ap (λ (t : Told). t.desk) e)
 fault_asked told now (Batch site t number rows) (inr e) = none_asked told.desk now.desk (ap (λ (t : Told). t.desk) e ∙ with_new_desk told site _)
-fault_asked told now Ticket (inl e) = (Err Failed ∷ [], now.desk, if_failed told.desk, inl (ap (λ (t : Told). t.desk) e), refl)
-fault_asked told now Ticket (inr e) = (Err Failed ∷ [], now.desk, if_failed told.desk, inr (ap (λ (t : Told). t.desk) e), refl)
+fault_asked told now Ticket (inl e) = (Err Failed ∷ [], (now.desk, if_failed told.desk, inl (ap (λ (t : Told). t.desk) e), refl))
+fault_asked told now Ticket (inr e) = (Err Failed ∷ [], (now.desk, if_failed told.desk, inr (ap (λ (t : Told). t.desk) e), refl))
 fault_asked told now (SchemaIn bytes) e = none_asked told.desk now.desk (ap (λ (t : Told). t.desk) e)
 fault_asked told now (QueriesIn bytes) e = none_asked told.desk now.desk (ap (λ (t : Told). t.desk) e)
 fault_asked told now (Bound s query) e = none_asked told.desk now.desk (ap (λ (t : Told). t.desk) e)
@@ -54,7 +51,7 @@ reply_asked : (told : Told) (now : Option DeskHeld) (question : Question) (reply
 reply_asked told now (File name) reply gives later = later
 reply_asked told now (Kept site name) reply gives later = later
 reply_asked told now (Batch site t number rows) reply gives later = subst (λ (desk : Option DeskHeld). AsksTickets desk now) (after_batch_desk told site _ reply) later
-reply_asked told now Ticket reply gives (answers, run) = (Ok reply ∷ answers, (after told Ticket reply).desk, gives.1, refl, run)
+reply_asked told now Ticket reply gives (answers, run) = (Ok reply ∷ answers, ((after told Ticket reply).desk, gives.1, refl, run))
 reply_asked told now (SchemaIn bytes) reply gives later = later
 reply_asked told now (QueriesIn bytes) reply gives later = later
 reply_asked told now (Bound s query) reply gives later = later

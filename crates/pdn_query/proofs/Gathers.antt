@@ -1,7 +1,6 @@
 -- Going along the script of queries.
-use Rattle.std.proofs.Common.{◌≡◌, ℕ, suc, zero, ◌+◌, ◌≤◌, ◌<◌, ◌++◌, List, [], ◌∷◌, length, drop, get_or, refl, sym, subst, ap, ◌∙◌, None, Some, Ok, inl, inr, arith, append-nil, append_assoc, ◌^◌}
+use Rattle.std.proofs.Common.{◌≡◌, ℕ, suc, zero, ◌+◌, ◌≤◌, ◌<◌, ◌++◌, List, [], ◌∷◌, length, drop, get_or, refl, sym, subst, ap, ◌∙◌, None, Some, Ok, inl, inr, arith, append-nil, append_assoc}
 use Rattle.std.proofs.lemmas.List.{drop_more, drop_all}
-use Rattle.std.proofs.lemmas.Bool.{lt-ltb, le-ltb}
 use Rattle.std.specs.Prelude.{Bool, true, false, Result, Err, MatchResult}
 use Rattle.pdn_base.specs.Operators.{Rows}
 use Rattle.pdn_base.specs.declared.site.Site.{Site}
@@ -16,7 +15,7 @@ use Rattle.pdn_site.specs.Compiling.{Compiled}
 use Rattle.pdn_broker.specs.Prepared.{PreparedModel}
 use Rattle.pdn_script.specs.Stops.{IsRefusal, stop_of}
 use Rattle.pdn_script.specs.declared.stop.Stop.{Stop}
-use Rattle.pdn_query.specs.Answering.{scans, asking_if, asking, wrong_column, or_wrong, judging, units_over, or_large, judging_both, or_spent, ticketing, answer_text, AllValid}
+use Rattle.pdn_query.specs.Answering.{scans, asking_if, asking, wrong_column, or_wrong, judging, units_over, or_large, judging_both, ticketing, answer_text, AllValid}
 use Rattle.pdn_query.specs.Gathering.{WrongRows, WrongTable, LargeUnit, NotReady, AreReady}
 use Rattle.pdn_query.specs.Questions.{Valid}
 use Rattle.pdn_query.specs.Script.{Script}
@@ -129,15 +128,6 @@ module _ (w : WorldModel) where
     gathered next (Err stop) ea eb not = unready (next a b) stop ea eb not
 
 -- ---- tickets
-
-module _ (w : WorldModel) (next : ℕ → Script) (ticket : ℕ) where
-  -- a ticket is there
-  pub there_on : ticket < 2 ^ 40 → Leads w w (or_spent next ticket) (next ticket)
-  there_on few = rw (lt-ltb ticket (2 ^ 40) few) (begun w (next ticket))
-
-  -- none is left
-  pub none_left : (stop : Stop) → 2 ^ 40 ≤ ticket → IsRefusal [] [] status.TicketsSpent stop → Along w w (or_spent next ticket) (stop_of stop)
-  none_left stop most is = rw (le-ltb ticket (2 ^ 40) most) (refused w [] [] status.TicketsSpent stop is)
 
 -- a ticket is taken, and the text is the answer with it
 pub given_text : (w now : WorldModel) (next : List ℕ → Script) (number ticket : ℕ) (columns : List OutColumn) (means rows : Rows) (text : List ℕ) → rows ≡ means → text ≡ answer_text number ticket columns rows →
