@@ -4,6 +4,7 @@
 use pdn_base::{Files, RealFiles, Sink, Site, Status, StdSink};
 use pdn_commands::{World, pdn};
 use pdn_dealer::ChaChaDeal;
+use pdn_desk_keeper::MemDesk;
 use pdn_keeper::MemSite;
 use pdn_startup::{ImportErr, dealer_of, import_tables, schema_there};
 use std::alloc::Global;
@@ -31,6 +32,8 @@ fn main(rt: HostRuntime) -> ExitCode {
         files: RealFiles::new(&rt),
         site_a: empty_site(alloc),
         site_b: empty_site(alloc),
+        // Tickets begin anew with each call of the program.
+        desk: MemDesk::new(0, Vec::new(alloc)),
         out: StdSink::new(io::writer(&rt)),
     };
     let words = match words(&rt) {
@@ -72,7 +75,7 @@ fn empty_site(alloc: Global) -> MemSite {
 // Each site's rows, where the schema can be read; else the sites stay empty.
 fn import_sites<F: Files, S>(
     alloc: Global,
-    world: &mut World<F, MemSite, S>,
+    world: &mut World<F, MemSite, MemDesk, S>,
 ) -> Result<(), ImportErr> {
     let Some(schema) = schema_there(alloc, &mut world.files) else {
         return Ok(());

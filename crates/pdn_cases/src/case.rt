@@ -30,12 +30,14 @@ impl From<Memory> for CaseErr {
     }
 }
 
-/// The calls that fail, by number from 1, and how many bytes the sink takes.
+/// The calls that fail, by number from 1, how many tickets the desk has left, and how many bytes the sink takes.
 #[derive(Drop)]
 pub struct Fails {
     pub files: Vec<u64>,
     pub site_a: Vec<u64>,
     pub site_b: Vec<u64>,
+    pub desk: Vec<u64>,
+    pub tickets: u64,
     pub sink: Vec<u64>,
     pub room: usize,
 }
@@ -133,12 +135,14 @@ fn numbers_of(alloc: Global, text: &[u8]) -> Result<Vec<u64>, CaseErr> {
     Ok(numbers)
 }
 
-// Each line of `fails` names an object and a call of it, or the room of the sink.
+// Each line of `fails` names an object and a call of it, the tickets that are left, or the room of the sink.
 fn fails_of(alloc: Global, text: &[u8]) -> Result<Fails, CaseErr> {
     let mut fails = Fails {
         files: Vec::new(alloc),
         site_a: Vec::new(alloc),
         site_b: Vec::new(alloc),
+        desk: Vec::new(alloc),
+        tickets: 1 << 40,
         sink: Vec::new(alloc),
         room: 100_000,
     };
@@ -148,6 +152,8 @@ fn fails_of(alloc: Global, text: &[u8]) -> Result<Fails, CaseErr> {
             "files" => fails.files.push(u64::from(call))?,
             "site a" => fails.site_a.push(u64::from(call))?,
             "site b" => fails.site_b.push(u64::from(call))?,
+            "desk" => fails.desk.push(u64::from(call))?,
+            "tickets" => fails.tickets = u64::from(call),
             "sink" => fails.sink.push(u64::from(call))?,
             "room" => fails.room = call as usize,
             _ => return Err(CaseErr::Unreadable("fails")),

@@ -1,17 +1,18 @@
 //! What lies outside in a case, in memory.
-ghost use Rattle.std.specs.Prelude.{◌≤◌, length, All};
+ghost use Rattle.std.specs.Prelude.{◌≤◌, ◌^◌, length, All};
 
 use crate::case::{Case, CaseErr, Fails, NamedFile, Ones, content};
 use pdn_base::{Files, MemFiles, MemSink, Site, Word};
 use pdn_commands::World;
 use pdn_dealer::ListDeal;
+use pdn_desk_keeper::MemDesk;
 use pdn_keeper::MemSite;
 use pdn_schema::{Schema, read_schema};
 use pdn_startup::{ImportErr, import_tables, schema_there};
 use std::alloc::Global;
 
-/// The files, the sites and the sink of a case.
-pub type Objects = World<MemFiles, MemSite, MemSink>;
+/// The files, the sites, the desk and the sink of a case.
+pub type Objects = World<MemFiles, MemSite, MemDesk, MemSink>;
 
 /// The objects of a case with these files. No site keeps a row yet.
 pub fn objects_of(alloc: Global, fails: &Fails, files: Vec<NamedFile>) -> Result<Objects, CaseErr>
@@ -23,8 +24,16 @@ pub fn objects_of(alloc: Global, fails: &Fails, files: Vec<NamedFile>) -> Result
         files: MemFiles::new(files, later(alloc, &fails.files, 0)?),
         site_a: MemSite::new(Vec::new(alloc), later(alloc, &fails.site_a, later_a)?),
         site_b: MemSite::new(Vec::new(alloc), later(alloc, &fails.site_b, later_b)?),
+        desk: MemDesk::new(next_ticket(fails), later(alloc, &fails.desk, 0)?),
         out: MemSink::new(alloc, fails.room, later(alloc, &fails.sink, 0)?)?,
     })
+}
+
+// The desk's next ticket where so many are left.
+fn next_ticket(fails: &Fails) -> u64
+    ensures { result ≤ 2 ^ 40 }
+{
+    (1u64 << 40).saturating_sub(fails.tickets)
 }
 
 /// Has the sites keep the rows of their files, by the schema of `kept.schema` where that is there.

@@ -5,6 +5,7 @@ ghost use Rattle.pdn_dealer.specs.Tapes.{first_words, list_tape};
 use pdn_base::{MemFiles, MemSink, Memory};
 use pdn_commands::{World, pdn};
 use pdn_dealer::{Deal, ListDeal, Section};
+use pdn_desk_keeper::MemDesk;
 use pdn_keeper::MemSite;
 use std::alloc::{AllocError, Global};
 use std::sync::atomic::{AtomicU64, Ordering};
@@ -89,6 +90,7 @@ fn two_queries_ask_for_the_sections_of_tickets_0_and_1_once(rt: HostRuntime) -> 
         files: MemFiles::new(files(alloc)?, Vec::new(alloc)),
         site_a: MemSite::new(Vec::new(alloc), Vec::new(alloc)),
         site_b: MemSite::new(Vec::new(alloc), Vec::new(alloc)),
+        desk: MemDesk::new(0, Vec::new(alloc)),
         out: MemSink::new(alloc, 1000, Vec::new(alloc))?,
     };
     let deal = Recording::new(alloc);

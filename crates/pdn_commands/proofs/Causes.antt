@@ -1,6 +1,8 @@
 -- The causes of a command's statuses, and what Done comes with.
-use Rattle.std.proofs.Common.{◌≡◌, ℕ, suc, ◌+◌, ◌<◌, ◌++◌, List, [], ◌∷◌, length, take, get_or, arith, None, Some, Option, Result, Ok, Err, inl, inr, ◌⊎◌, refl, sym, subst, ◌∙◌, append-nil, append_assoc}
-use Rattle.std.specs.Prelude.{Bool, true, false, codes}
+use Rattle.std.proofs.Common.{◌≡◌, ℕ, suc, ◌+◌, ◌<◌, ◌≤◌, ◌^◌, ◌++◌, List, [], ◌∷◌, length, take, get_or, arith, None, Some, Option, Result, Ok, Err, inl, inr, ◌⊎◌, refl, sym, subst, ◌∙◌, append-nil, append_assoc}
+use Rattle.std.specs.Prelude.{Bool, true, false, codes, IfSome, nat_lt, if◌then◌else◌}
+use Rattle.std.proofs.lemmas.Bool.{ltb-true, ltb-false, lt-ltb}
+use Rattle.std.proofs.lemmas.List.{length-append}
 use Rattle.std.specs.List.{AllByRecursion}
 use Rattle.pdn_base.specs.declared.rows_err.RowsErr.{RowsErr}
 use Rattle.pdn_base.specs.declared.site.Site.{Site}
@@ -23,10 +25,11 @@ use Rattle.pdn_schema.specs.Printing.{text_of}
 use Rattle.pdn_commands.specs.Checking.{reporting, query_report, AreReported}
 use Rattle.pdn_commands.specs.Causes.{AskedRun, AskedQueries, AskedCheck, AskedReports, AskedLoad, AskedTable, Inputs, IsReached, IsAsked, AreWrong, Cause, IsDone, file_of}
 use Rattle.pdn_commands.specs.Commands.{Task, Run, Check, Load, task_of, task_script, script}
-use Rattle.pdn_query.specs.Answering.{scans, asking_if, asking, or_wrong, judging, units_over, or_large, answer_text, answering, KeepsIf, KeepsAll, AllValid, IsTaken, IsAnswer}
-use Rattle.pdn_commands.specs.Running.{queries_script, AreAnswers}
-use Rattle.pdn_query.specs.Questions.{Told, Unbound, Broken, Hidden, IsBound, Holds, IsWrong, kept_at, IsSchemaIn, AreQueriesIn, AreRowsIn, Answer, New, Again, Differs, OverRows, OverPer, Batch, Gives, after, questions}
-use Rattle.pdn_query.specs.Script.{Script, Finish, Refuse, Say, Ask, or_fault, or_unbound}
+use Rattle.pdn_query.specs.Answering.{scans, asking_if, asking, or_wrong, judging, units_over, or_large, answer_text, ticketing, answering, KeepsIf, KeepsAll, AllValid, IsTaken, IsAnswer}
+use Rattle.pdn_desk_keeper.specs.Desks.{DeskHeld, with_ticket}
+use Rattle.pdn_commands.specs.Running.{queries_script, with_given, AreLeft, IsGiven, AreAnswers}
+use Rattle.pdn_query.specs.Questions.{Told, Unbound, Broken, Hidden, IsBound, Holds, IsWrong, kept_at, IsSchemaIn, AreQueriesIn, AreRowsIn, Answer, New, Again, Differs, OverRows, OverPer, Batch, Gives, IsNext, after, with_desk, with_taken, questions}
+use Rattle.pdn_query.specs.Script.{Script, Finish, Refuse, Say, Ask, refuse, or_fault, or_unbound}
 use Rattle.pdn_commands.specs.Script.{found, with_inputs, answered, load_table, table_number}
 use Rattle.pdn_query.specs.Walk.{Refusals, Texts, Follows, End, NoMemory, Closes, Wrote, Along}
 use Rattle.pdn_query.specs.World.{WorldModel, RoseIn}
@@ -84,6 +87,11 @@ module _ (told : Told) (P : Status → Type 0) where
   in_large next (Ok units) faults more = more units refl
   in_large next (Err passed) faults more = faults passed.0 passed.1 refl
 
+  in_there : (next : ℕ → Script) (ticket : ℕ) (b : Bool) → nat_lt ticket (2 ^ 40) ≡ b → (2 ^ 40 ≤ ticket → P status.TicketsSpent) → (ticket < 2 ^ 40 → Refusals told P (next ticket)) →
+      Refusals told P (if b then next ticket else refuse status.TicketsSpent)
+  in_there next ticket true e spent more = more (ltb-true ticket (2 ^ 40) e)
+  in_there next ticket false e spent more = spent (ltb-false ticket (2 ^ 40) e)
+
 from_first : (k place : ℕ) → place ≡ 0 + k → k ≡ place
 from_first k place e = omega (arith, e)
 
@@ -92,6 +100,53 @@ refusals_map P Q f told Finish r = tt
 refusals_map P Q f told (Refuse refused line) r = f refused r
 refusals_map P Q f told (Say text rest) r = refusals_map P Q f told rest r
 refusals_map P Q f told (Ask question next) r = λ reply gives. refusals_map P Q f (after told question reply) (next reply) (r reply gives)
+
+-- ---- tickets that were given
+
+length_more : (before : List Query) (query : Query) → length (before ++ query ∷ []) ≡ length before + 1
+length_more before query = length-append before (query ∷ [])
+
+-- a ticket more
+given_next : (desk : Option DeskHeld) (count ticket : ℕ) → ticket < 2 ^ 40 → IsNext (with_given count desk) ticket → with_ticket (with_given count desk) ≡ with_given (count + 1) desk
+given_next None count ticket few next = refl
+given_next (Some held) count ticket few next =
+    let here : held.next + count < 2 ^ 40 = omega (arith, few, next.1) in
+    let more : held.next + count + 1 ≡ held.next + (count + 1) = omega arith in
+    rw (lt-ltb (held.next + count) (2 ^ 40) here, more) refl
+
+given_more : (desk : Option DeskHeld) (before : List Query) (query : Query) (ticket : ℕ) → ticket < 2 ^ 40 → IsNext (with_given (length before) desk) ticket →
+    with_ticket (with_given (length before) desk) ≡ with_given (length (before ++ query ∷ [])) desk
+given_more desk before query ticket few next = rw (length_more before query) (given_next desk (length before) ticket few next)
+
+left_next : (desk : Option DeskHeld) (count ticket : ℕ) → ticket < 2 ^ 40 → IsNext (with_given count desk) ticket → AreLeft desk (count + 1)
+left_next None count ticket few next = tt
+left_next (Some held) count ticket few next = λ k l. omega (arith, few, next.1, l)
+
+none_wanted : (desk : Option DeskHeld) → AreLeft desk 0
+none_wanted None = tt
+none_wanted (Some held) = λ k l. omega (arith, l)
+
+left_more : (desk : Option DeskHeld) (before : List Query) (query : Query) (ticket : ℕ) → ticket < 2 ^ 40 → IsNext (with_given (length before) desk) ticket → AreLeft desk (length (before ++ query ∷ []))
+left_more desk before query ticket few next = rw (length_more before query) (left_next desk (length before) ticket few next)
+
+-- none is left
+all_given : (desk : Option DeskHeld) (count ticket : ℕ) → 2 ^ 40 ≤ ticket → IsNext (with_given count desk) ticket → IfSome desk (λ held. held.next + count ≡ 2 ^ 40)
+all_given None count ticket most next = tt
+all_given (Some held) count ticket most next = omega (arith, most, next.0, next.1)
+
+is_given : (desk : Option DeskHeld) (count ticket : ℕ) → ticket < 2 ^ 40 → IsNext (with_given count desk) ticket → IsGiven desk count ticket
+is_given None count ticket few next = (few, tt)
+is_given (Some held) count ticket few next = (few, next.1)
+
+plus_none : (before : ℕ) → before + 0 ≡ before
+plus_none before = omega arith
+
+plus_one : (before count : ℕ) → before + 1 + count ≡ before + suc count
+plus_one before count = omega arith
+
+none_given : (desk : Option DeskHeld) → with_given 0 desk ≡ desk
+none_given None = refl
+none_given (Some held) = let same : held.next + 0 ≡ held.next = omega arith in rw (same) refl
 
 all_more : (P : Query → Type 0) (before : List Query) (query : Query) → AllByRecursion P before → P query → AllByRecursion P (before ++ query ∷ [])
 all_more P [] query taken is = (is, tt)
@@ -111,29 +166,49 @@ module _ (rose : Who → Type 0) (told : Told) (words : List (List ℕ)) where
   wrong_caused : (asked : IsAsked told words) (site : Site) (at : ℕ) (e : RowsErr) → AreWrong asked.all.run.s asked.a asked.b site at e → Refused rose told words (status.BadRows site at e)
   wrong_caused asked site at e are = record { asked = asked; are = are }
 
-  planned_caused : (all : AskedQueries told words) (query : Query) (next : Rows → Script) → IsReached told all.run.s all.queries query → (plan : PlanModel) → IsBound all.run.s query (Ok plan) →
-      (IsTaken told.a told.b all.run.s query → (rows : Rows) → Caused (next rows)) → Caused (answering all.run.s query plan next)
-  planned_caused all query next reached plan binds more =
-      in_asked told (Refused rose told words) A plan.root 0 all.run.s.tables _ (λ a ha. in_asked told (Refused rose told words) B plan.root 0 all.run.s.tables _ (λ b hb.
+  -- the same, where the desk holds this
+  abbrev CausedAt : Option DeskHeld → Script → Type 0
+  CausedAt desk script = Refusals (with_desk told desk) (Refused rose told words) script
+
+  -- the next ticket is asked for, after so many others
+  given_caused : (asked : IsAsked told words) (next : ℕ → Script) → AllValid asked.all.run.s.tables asked.a → AllValid asked.all.run.s.tables asked.b →
+      (units : List UnitModel) → units_over asked.all.run.s asked.plan.root asked.a asked.b ≡ Ok units → ((ticket : ℕ) → ticket < 2 ^ 40 → IsNext (with_given (length asked.reached.before) told.desk) ticket →
+      CausedAt (with_ticket (with_given (length asked.reached.before) told.desk)) (next ticket)) → CausedAt (with_given (length asked.reached.before) told.desk) (ticketing next)
+  given_caused asked next va vb units fits more = λ ticket is. in_there (with_taken (with_desk told (with_given (length asked.reached.before) told.desk))) (Refused rose told words) next ticket (nat_lt ticket (2 ^ 40)) refl
+      (λ most. record { asked = asked; valid_a = va; valid_b = vb; units = units; fits = fits; spent = all_given told.desk (length asked.reached.before) ticket most is })
+      (λ few. more ticket few is)
+
+  planned_caused : (all : AskedQueries told words) (query : Query) (next : ℕ → Rows → Script) → (reached : IsReached told all.run.s all.queries query) → (plan : PlanModel) → IsBound all.run.s query (Ok plan) →
+      (IsTaken told.a told.b all.run.s query → (ticket : ℕ) → ticket < 2 ^ 40 → IsNext (with_given (length reached.before) told.desk) ticket → (rows : Rows) →
+      CausedAt (with_ticket (with_given (length reached.before) told.desk)) (next ticket rows)) → CausedAt (with_given (length reached.before) told.desk) (answering all.run.s query plan next)
+  planned_caused all query next reached plan binds more = let now : Told = with_desk told (with_given (length reached.before) told.desk) in
+      in_asked now (Refused rose told words) A plan.root 0 all.run.s.tables _ (λ a ha. in_asked now (Refused rose told words) B plan.root 0 all.run.s.tables _ (λ b hb.
       let asked : IsAsked told words = record { all = all; query = query; reached = reached; plan = plan; binds = binds; a = a; b = b; held_a = ha; held_b = hb } in
-      in_judged told (Refused rose told words) A 0 all.run.s.tables a _ (λ k place e same before l refused. wrong_caused asked A place e (subst (λ (n : ℕ). AreWrong all.run.s a b A n e) (from_first k place same) (record { before = before; within = l; here = refused }))) (λ va.
-      in_judged told (Refused rose told words) B 0 all.run.s.tables b _ (λ k place e same before l refused. wrong_caused asked B place e (subst (λ (n : ℕ). AreWrong all.run.s a b B n e) (from_first k place same) (va, record { before = before; within = l; here = refused }))) (λ vb.
-      in_large told (Refused rose told words) (next (answer all.run.s (union a b) query)) (units_over all.run.s plan.root a b) (λ limit unit passes. record { asked = asked; valid_a = va; valid_b = vb; passes = passes })
-      (λ units fits. more (record { plan = plan; binds = binds; a = a; b = b; held_a = ha; held_b = hb; valid_a = va; valid_b = vb; units = units; fits = fits }) (answer all.run.s (union a b) query))))))
+      in_judged now (Refused rose told words) A 0 all.run.s.tables a _ (λ k place e same before l refused. wrong_caused asked A place e (subst (λ (n : ℕ). AreWrong all.run.s a b A n e) (from_first k place same) (record { before = before; within = l; here = refused }))) (λ va.
+      in_judged now (Refused rose told words) B 0 all.run.s.tables b _ (λ k place e same before l refused. wrong_caused asked B place e (subst (λ (n : ℕ). AreWrong all.run.s a b B n e) (from_first k place same) (va, record { before = before; within = l; here = refused }))) (λ vb.
+      in_large now (Refused rose told words) _ (units_over all.run.s plan.root a b) (λ limit unit passes. record { asked = asked; valid_a = va; valid_b = vb; passes = passes })
+      (λ units fits. given_caused asked (λ ticket. next ticket (answer all.run.s (union a b) query)) va vb units fits (λ ticket few is.
+      more (record { plan = plan; binds = binds; a = a; b = b; held_a = ha; held_b = hb; valid_a = va; valid_b = vb; units = units; fits = fits }) ticket few is (answer all.run.s (union a b) query)))))))
 
   -- a query's plan is asked for first
-  bound_caused : (all : AskedQueries told words) (query : Query) → IsReached told all.run.s all.queries query → (next : PlanModel → Script) → ((bound : PlanModel) → IsBound all.run.s query (Ok bound) → Caused (next bound)) →
-      (reply : Result PlanModel Unbound) → IsBound all.run.s query reply → Caused (or_unbound next reply)
-  bound_caused all query reached next more (Ok bound) binds = more bound binds
-  bound_caused all query reached next more (Err (Broken kind name)) is = inl (inl (record { all = all; query = query; reached = reached; is = is }))
-  bound_caused all query reached next more (Err (Hidden column label)) is = inl (record { all = all; query = query; reached = reached; is = is })
+  bound_caused : (all : AskedQueries told words) (query : Query) → IsReached told all.run.s all.queries query → (desk : Option DeskHeld) (next : PlanModel → Script) →
+      ((bound : PlanModel) → IsBound all.run.s query (Ok bound) → CausedAt desk (next bound)) → (reply : Result PlanModel Unbound) → IsBound all.run.s query reply → CausedAt desk (or_unbound next reply)
+  bound_caused all query reached desk next more (Ok bound) binds = more bound binds
+  bound_caused all query reached desk next more (Err (Broken kind name)) is = inl (inl (record { all = all; query = query; reached = reached; is = is }))
+  bound_caused all query reached desk next more (Err (Hidden column label)) is = inl (record { all = all; query = query; reached = reached; is = is })
 
-  queries_caused : (all : AskedQueries told words) (number ticket : ℕ) (before queries : List Query) → all.queries ≡ before ++ queries →
-      AllByRecursion (IsTaken told.a told.b all.run.s) before → Caused (queries_script all.run.s number ticket queries)
-  queries_caused all number ticket before [] e taken = tt
-  queries_caused all number ticket before (query ∷ queries) e taken = let reached : IsReached told all.run.s all.queries query = record { before = before; later = queries; stands = e; taken = taken } in
-      bound_caused all query reached _ (λ plan binds. planned_caused all query (λ rows. Say (answer_text number ticket plan.columns rows) (queries_script all.run.s (number + 1) (ticket + 1) queries)) reached plan binds
-      (λ is rows. queries_caused all (number + 1) (ticket + 1) (before ++ query ∷ []) queries (e ∙ sym (append_assoc before (query ∷ []) queries)) (all_more (IsTaken told.a told.b all.run.s) before query taken is)))
+  queries_caused : (all : AskedQueries told words) (number : ℕ) (before queries : List Query) → all.queries ≡ before ++ queries →
+      AllByRecursion (IsTaken told.a told.b all.run.s) before → AreLeft told.desk (length before) → CausedAt (with_given (length before) told.desk) (queries_script all.run.s number queries)
+  queries_caused all number before [] e taken left = tt
+  queries_caused all number before (query ∷ queries) e taken left =
+      let reached : IsReached told all.run.s all.queries query = record { before = before; later = queries; stands = e; taken = taken; left = left } in
+      bound_caused all query reached (with_given (length before) told.desk) _ (λ plan binds.
+      planned_caused all query (λ ticket rows. Say (answer_text number ticket plan.columns rows) (queries_script all.run.s (number + 1) queries)) reached plan binds (λ is ticket few next rows.
+      subst (λ (desk : Option DeskHeld). CausedAt desk (queries_script all.run.s (number + 1) queries)) (sym (given_more told.desk before query ticket few next))
+      (queries_caused all (number + 1) (before ++ query ∷ []) queries (e ∙ sym (append_assoc before (query ∷ []) queries)) (all_more (IsTaken told.a told.b all.run.s) before query taken is) (left_more told.desk before query ticket few next))))
+
+  begun_caused : (all : AskedQueries told words) → Caused (queries_script all.run.s 1 all.queries)
+  begun_caused all = subst (λ (desk : Option DeskHeld). CausedAt desk (queries_script all.run.s 1 all.queries)) (none_given told.desk) (queries_caused all 1 [] all.queries refl tt (none_wanted told.desk))
 
   answered_caused : (table : AskedTable told words) (rows : List (List Value)) → AreRowsIn (table_of table.load.s table.at) table.load.csv (Ok rows) → (answer : Answer) →
       Gives told (Batch table.load.site (table_of table.load.s table.at) table.load.number rows) answer →
@@ -181,7 +256,7 @@ module _ (rose : Who → Type 0) (told : Told) (words : List (List ℕ)) where
   task_caused (Some (Run file workers)) e = task_inputs (Run file workers) _ e (λ s sql inputs read is.
       let run : AskedRun told words = record { file = file; workers = workers; s = s; sql = sql; asked = e; inputs = inputs } in
       in_read told (Refused rose told words) status.Sql _ (AreQueriesIn sql) read is (λ place kind are. inl (run, are))
-      (λ queries are. queries_caused (record { run = run; queries = queries; are = are }) 1 0 [] queries refl tt))
+      (λ queries are. begun_caused (record { run = run; queries = queries; are = are })))
   task_caused (Some (Check file)) e = task_inputs (Check file) _ e (λ s sql inputs read is.
       let check : AskedCheck told words = record { file = file; s = s; sql = sql; asked = e; inputs = inputs } in
       in_read told (Refused rose told words) status.Sql _ (AreQueriesIn sql) read is (λ place kind are. inr (check, are))
@@ -218,6 +293,12 @@ module _ (rose : Who → Type 0) (told : Told) (words : List (List ℕ)) where
   all_plain = refusals_map (Refused rose told words) IsPlain refusal_plain told (script words) (task_caused (task_of words) refl)
 
 -- ---- what Done comes with
+
+text_there : (told : Told) (Q : List ℕ → Told → Type 0) (next : ℕ → Script) (ticket : ℕ) (b : Bool) → nat_lt ticket (2 ^ 40) ≡ b → (ticket < 2 ^ 40 → Texts told Q (next ticket)) →
+    Texts told Q (if b then next ticket else refuse status.TicketsSpent)
+text_there told Q next ticket true e more = more (ltb-true ticket (2 ^ 40) e)
+text_there told Q next ticket false e more = tt
+
 module _ (told : Told) where
   text_found : (Q : List ℕ → Told → Type 0) (name : List ℕ) (next : List ℕ → Script) (content : Option (List ℕ)) → Holds told.files name content →
       ((bytes : List ℕ) → Holds told.files name (Some bytes) → Texts told Q (next bytes)) → Texts told Q (found name next content)
@@ -258,15 +339,18 @@ module _ (told : Told) where
   text_large Q next (Ok units) more = more units refl
   text_large Q next (Err passed) more = tt
 
-  planned_text : (Q : List ℕ → Told → Type 0) (s : SchemaModel) (number ticket : ℕ) (query : Query) (next : Script) (plan : PlanModel) → IsBound s query (Ok plan) →
-      ((text : List ℕ) → IsAnswer told.a told.b s number ticket query text → Texts told (λ more now. Q (text ++ more) now) next) →
-      Texts told Q (answering s query plan (λ rows. Say (answer_text number ticket plan.columns rows) next))
-  planned_text Q s number ticket query next plan binds more = text_asked Q A plan.root 0 s.tables _ (λ a ha. text_asked Q B plan.root 0 s.tables _ (λ b hb.
-      text_judged Q A 0 s.tables a _ (λ va. text_judged Q B 0 s.tables b _ (λ vb. text_large Q (Say (answer_text number ticket plan.columns (answer s (union a b) query)) next) (units_over s plan.root a b) (λ units fits.
-      more (answer_text number ticket plan.columns (answer s (union a b) query)) (record {
+  text_given : (Q : List ℕ → Told → Type 0) (next : ℕ → Script) → ((ticket : ℕ) → ticket < 2 ^ 40 → IsNext told.desk ticket → Texts (with_taken told) Q (next ticket)) → Texts told Q (ticketing next)
+  text_given Q next more = λ ticket is. text_there (with_taken told) Q next ticket (nat_lt ticket (2 ^ 40)) refl (λ few. more ticket few is)
+
+  planned_text : (Q : List ℕ → Told → Type 0) (s : SchemaModel) (number : ℕ) (query : Query) (next : Script) (plan : PlanModel) → IsBound s query (Ok plan) →
+      ((ticket : ℕ) (text : List ℕ) → ticket < 2 ^ 40 → IsNext told.desk ticket → IsAnswer told.a told.b s number ticket query text → Texts (with_taken told) (λ more now. Q (text ++ more) now) next) →
+      Texts told Q (answering s query plan (λ ticket rows. Say (answer_text number ticket plan.columns rows) next))
+  planned_text Q s number query next plan binds more = text_asked Q A plan.root 0 s.tables _ (λ a ha. text_asked Q B plan.root 0 s.tables _ (λ b hb.
+      text_judged Q A 0 s.tables a _ (λ va. text_judged Q B 0 s.tables b _ (λ vb. text_large Q _ (units_over s plan.root a b) (λ units fits.
+      text_given Q (λ ticket. Say (answer_text number ticket plan.columns (answer s (union a b) query)) next) (λ ticket few is. more ticket (answer_text number ticket plan.columns (answer s (union a b) query)) few is (record {
         taken = record { plan = plan; binds = binds; a = a; b = b; held_a = ha; held_b = hb; valid_a = va; valid_b = vb; units = units; fits = fits };
         printed = refl;
-      }))))))
+      })))))))
 
   bound_text : (Q : List ℕ → Told → Type 0) (s : SchemaModel) (query : Query) (next : PlanModel → Script) → ((bound : PlanModel) → IsBound s query (Ok bound) → Texts told Q (next bound)) →
       (reply : Result PlanModel Unbound) → IsBound s query reply → Texts told Q (or_unbound next reply)
@@ -274,17 +358,23 @@ module _ (told : Told) where
   bound_text Q s query next more (Err (Broken kind name)) is = tt
   bound_text Q s query next more (Err (Hidden column label)) is = tt
 
-  queries_text : (Q : List ℕ → Told → Type 0) (s : SchemaModel) (number ticket : ℕ) (queries : List Query) → ((text : List ℕ) → AreAnswers told.a told.b s number ticket queries text → Q text told) →
-      Texts told Q (queries_script s number ticket queries)
-  queries_text Q s number ticket [] done = done [] refl
-  queries_text Q s number ticket (query ∷ queries) done = bound_text Q s query _ (λ plan binds. planned_text Q s number ticket query _ plan binds (λ text is.
-      queries_text (λ more now. Q (text ++ more) now) s (number + 1) (ticket + 1) queries (λ more are. done (text ++ more) (text, more, refl, is, are))))
-
   reports_text : (Q : List ℕ → Told → Type 0) (s : SchemaModel) (number : ℕ) (queries : List Query) (next : List ℕ → Script) → ((text : List ℕ) → AreReported s number queries text → Texts told Q (next text)) →
       Texts told Q (reporting s number queries next)
   reports_text Q s number [] next done = done [] refl
   reports_text Q s number (query ∷ queries) next done = bound_text Q s query _ (λ plan binds. reports_text Q s (number + 1) queries (λ more. next (query_report s number query plan ++ more))
       (λ more are. done (query_report s number query plan ++ more) (plan, more, binds, refl, are)))
+
+-- the answers of queries, before which so many tickets were given
+queries_text : (told : Told) (Q : List ℕ → Told → Type 0) (s : SchemaModel) (number before : ℕ) (queries : List Query) →
+    ((text : List ℕ) → AreAnswers told s number before queries text → Q text (with_desk told (with_given (before + length queries) told.desk))) →
+    Texts (with_desk told (with_given before told.desk)) Q (queries_script s number queries)
+queries_text told Q s number before [] done = subst (λ (count : ℕ). Q [] (with_desk told (with_given count told.desk))) (plus_none before) (done [] refl)
+queries_text told Q s number before (query ∷ queries) done = let now : Told = with_desk told (with_given before told.desk) in
+    bound_text now Q s query _ (λ plan binds. planned_text now Q s number query _ plan binds (λ ticket text few next is.
+    subst (λ (desk : Option DeskHeld). Texts (with_desk told desk) (λ more after. Q (text ++ more) after) (queries_script s (number + 1) queries)) (sym (given_next told.desk before ticket few next))
+    (queries_text told (λ more after. Q (text ++ more) after) s (number + 1) (before + 1) queries (λ more are.
+    subst (λ (count : ℕ). Q (text ++ more) (with_desk told (with_given count told.desk))) (sym (plus_one before (length queries)))
+    (done (text ++ more) (ticket, text, more, refl, is_given told.desk before ticket few next, is, are))))))
 
 module _ (told : Told) (words : List (List ℕ)) where
   answered_text : (table : AskedTable told words) (rows : List (List Value)) → AreRowsIn (table_of table.load.s table.at) table.load.csv (Ok rows) → (answer : Answer) →
@@ -301,14 +391,19 @@ module _ (told : Told) (words : List (List ℕ)) where
   load_text load (Some at) e = λ read is. text_read told (IsDone told words) status.Csv _ (AreRowsIn (table_of load.s at) load.csv) read is
       (λ rows are answer says. answered_text (record { load = load; at = at; is = e }) rows are answer says)
 
+  begun_text : (s : SchemaModel) (queries : List Query) → ((text : List ℕ) → AreAnswers told s 1 0 queries text → IsDone told words text (with_desk told (with_given (length queries) told.desk))) →
+      Texts told (IsDone told words) (queries_script s 1 queries)
+  begun_text s queries done = subst (λ (desk : Option DeskHeld). Texts (with_desk told desk) (IsDone told words) (queries_script s 1 queries)) (none_given told.desk)
+      (queries_text told (IsDone told words) s 1 0 queries done)
+
   task_text : (task : Option Task) → task_of words ≡ task → Texts told (IsDone told words) (task_script task)
   task_text None e = tt
   task_text (Some (Run file workers)) e = text_inputs told (IsDone told words) file _ (λ s sql inputs read is.
-      text_read told (IsDone told words) status.Sql _ (AreQueriesIn sql) read is (λ queries are. queries_text told (IsDone told words) s 1 0 queries
+      text_read told (IsDone told words) status.Sql _ (AreQueriesIn sql) read is (λ queries are. begun_text s queries
       (λ text answers. inl (record {
         all = record { run = record { file = file; workers = workers; s = s; sql = sql; asked = e; inputs = inputs }; queries = queries; are = are };
         answers = answers;
-        kept = refl;
+        given = refl;
       }))))
   task_text (Some (Check file)) e = text_inputs told (IsDone told words) file _ (λ s sql inputs read is.
       text_read told (IsDone told words) status.Sql _ (AreQueriesIn sql) read is (λ queries are. reports_text told (IsDone told words) s 1 queries (λ text. Say (text_of s ++ text) Finish)

@@ -10,18 +10,18 @@ use Rattle.pdn_query.specs.World.{WorldModel}
 use Rattle.pdn_query.proofs.Walks.{leads_on, leads_along, finished}
 use Rattle.pdn_commands.specs.Running.{queries_script}
 
-module _ {old mid : WorldModel} {whole : Script} (s : SchemaModel) (queries : List Query) (i : ℕ) (l : Leads old mid whole (queries_script s (i + 1) i (drop i queries))) where
+module _ {old mid : WorldModel} {whole : Script} (s : SchemaModel) (queries : List Query) (i : ℕ) (l : Leads old mid whole (queries_script s (i + 1) (drop i queries))) where
   module _ (query : Query) (within : i < length queries) (is : query ≡ get_or queries i query) where
     abbrev later : Script
-    later = queries_script s (i + 1 + 1) (i + 1) (drop (i + 1) queries)
+    later = queries_script s (i + 1 + 1) (drop (i + 1) queries)
 
-    this : Leads old mid whole (query_script s (i + 1) i query later)
+    this : Leads old mid whole (query_script s (i + 1) query later)
     this = rw (drop_more queries i query within, ← is) at l
 
-    pub query_on : {now : WorldModel} → ((rest : Script) → Leads mid now (query_script s (i + 1) i query rest) rest) → Leads old now whole later
+    pub query_on : {now : WorldModel} → ((rest : Script) → Leads mid now (query_script s (i + 1) query rest) rest) → Leads old now whole later
     query_on step = leads_on this (step later)
 
-    pub query_stopped : {now : WorldModel} (end : End) → ((rest : Script) → Along mid now (query_script s (i + 1) i query rest) end) → Along old now whole end
+    pub query_stopped : {now : WorldModel} (end : End) → ((rest : Script) → Along mid now (query_script s (i + 1) query rest) end) → Along old now whole end
     query_stopped end step = leads_along this (step later)
 
   pub queries_done : length queries ≤ i → Along old mid whole Finished

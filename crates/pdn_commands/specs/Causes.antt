@@ -1,5 +1,5 @@
 -- When each status may be answered.
-use Rattle.std.specs.Prelude.{◌≡◌, ◌⊎◌, ◌<◌, ℕ, List, [], ◌∷◌, ◌++◌, length, take, get_or, None, Some, Option, Ok, Err, codes}
+use Rattle.std.specs.Prelude.{◌≡◌, ◌⊎◌, ◌<◌, ◌+◌, ◌^◌, IfSome, ℕ, List, [], ◌∷◌, ◌++◌, length, take, get_or, None, Some, Option, Ok, Err, codes}
 use Rattle.std.specs.List.{AllByRecursion}
 use Rattle.pdn_base.specs.declared.rows_err.RowsErr.{RowsErr}
 use Rattle.pdn_base.specs.declared.site.Site.{Site}
@@ -15,11 +15,12 @@ use Rattle.pdn_schema.specs.Rows.{IsRefused}
 use Rattle.pdn_sql.specs.declared.query.Query.{Query}
 use Rattle.pdn_commands.specs.Commands.{Task, Run, Check, Load, task_of}
 use Rattle.pdn_query.specs.Answering.{IsTaken, KeepsAll, AllValid, units_over}
-use Rattle.pdn_commands.specs.Running.{AreAnswers}
+use Rattle.pdn_commands.specs.Running.{AreLeft, AreAnswers, with_given}
 use Rattle.pdn_commands.specs.Checking.{AreReported}
 use Rattle.pdn_schema.specs.Printing.{text_of}
+use Rattle.pdn_site.specs.Models.{UnitModel}
 use Rattle.pdn_tree.specs.Plans.{PlanModel}
-use Rattle.pdn_query.specs.Questions.{Told, Unbound, Broken, Hidden, IsBound, Holds, Answer, New, Again, Differs, OverRows, OverPer, Batch, Gives, with_new, IsSchemaIn, AreQueriesIn, AreRowsIn}
+use Rattle.pdn_query.specs.Questions.{Told, Unbound, Broken, Hidden, IsBound, Holds, Answer, New, Again, Differs, OverRows, OverPer, Batch, Gives, with_new, with_desk, IsSchemaIn, AreQueriesIn, AreRowsIn}
 use Rattle.pdn_commands.specs.Script.{table_number, loaded_text}
 use Rattle.pdn_keeper.specs.Batches.{batch_held}
 
@@ -65,12 +66,13 @@ pub record AskedQueries (told : Told) (words : List (List ℕ)) : Type 0 where
   pub queries : List Query
   pub are : AreQueriesIn run.sql (Ok queries)
 
--- one of these queries, each before which is answered
+-- one of these queries, each before which is answered and had a ticket
 pub record IsReached (told : Told) (s : SchemaModel) (queries : List Query) (query : Query) : Type 0 where
   pub before : List Query
   pub later : List Query
   pub stands : queries ≡ before ++ query ∷ later
   pub taken : AllByRecursion (IsTaken told.a told.b s) before
+  pub left : AreLeft told.desk (length before)
 
 -- a query is reached that has no plan, and this is why
 pub record IsUnbound (told : Told) (words : List (List ℕ)) (why : Unbound) : Type 0 where
@@ -142,6 +144,15 @@ pub record IsTooLarge (told : Told) (words : List (List ℕ)) (limit unit : ℕ)
   pub valid_b : AllValid asked.all.run.s.tables asked.b
   pub passes : units_over asked.all.run.s asked.plan.root asked.a asked.b ≡ Err (limit, unit)
 
+-- A query is reached whose rows are valid and whose units pass no limit, and no ticket is left.
+pub record IsSpent (told : Told) (words : List (List ℕ)) : Type 0 where
+  pub asked : IsAsked told words
+  pub valid_a : AllValid asked.all.run.s.tables asked.a
+  pub valid_b : AllValid asked.all.run.s.tables asked.b
+  pub units : List UnitModel
+  pub fits : units_over asked.all.run.s asked.plan.root asked.a asked.b ≡ Ok units
+  pub spent : IfSome told.desk (λ held. held.next + length asked.reached.before ≡ 2 ^ 40)
+
 -- A load is asked for, its files are there, and the schema file says this schema.
 pub record AskedLoad (told : Told) (words : List (List ℕ)) : Type 0 where
   pub site : Site
@@ -190,6 +201,7 @@ Cause rose told words (status.Plan kind name) = CausePlan told words kind name
 Cause rose told words (status.Forbidden column label) = CauseUnbound told words (Hidden column label)
 Cause rose told words (status.TooLarge limit unit) = IsTooLarge told words limit unit
 Cause rose told words (status.BadRows site table wrong) = HasWrongRows told words site table wrong
+Cause rose told words status.TicketsSpent = IsSpent told words
 Cause rose told words (status.Csv entry cause) = (table : AskedTable told words) × AreRowsIn (table_of table.load.s table.at) table.load.csv (Err (entry, cause))
 Cause rose told words (status.BatchDiffers row) = IsAnswered told words (Differs row)
 Cause rose told words (status.OverBound column) = CauseBound told words column
@@ -199,11 +211,11 @@ Cause rose told words other = ⊥
 
 -- ---- what Done comes with
 
--- the queries' answers, and the keepers as they were
+-- the queries' answers; what the sites keep is as it was, and the desk gave a ticket for each query
 pub record IsRun (told : Told) (words : List (List ℕ)) (text : List ℕ) (now : Told) : Type 0 where
   pub all : AskedQueries told words
-  pub answers : AreAnswers told.a told.b all.run.s 1 0 all.queries text
-  pub kept : now ≡ told
+  pub answers : AreAnswers told all.run.s 1 0 all.queries text
+  pub given : now ≡ with_desk told (with_given (length all.queries) told.desk)
 
 -- the schema and the queries' reports, and the keepers as they were
 pub record IsChecked (told : Told) (words : List (List ℕ)) (text : List ℕ) (now : Told) : Type 0 where

@@ -79,8 +79,15 @@ loads site (Some (Run file workers)) = false
 loads site (Some (Check file)) = false
 loads site (Some (Load at table number file)) = same_site site at
 
+-- a run is asked for
+abbrev pub runs : Option Task → Bool
+runs None = false
+runs (Some (Run file workers)) = true
+runs (Some (Check file)) = false
+runs (Some (Load at table number file)) = false
+
 abbrev pub run_script : List ℕ → Script
-run_script file = with_inputs file (λ s sql. with_queries sql (queries_script s 1 0))
+run_script file = with_inputs file (λ s sql. with_queries sql (queries_script s 1))
 
 abbrev pub check_script : List ℕ → Script
 check_script file = with_inputs file (λ s sql. with_queries sql (report_script s))

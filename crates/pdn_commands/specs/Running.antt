@@ -1,18 +1,31 @@
 -- How the queries of a file are answered, one after the other.
-use Rattle.std.specs.Prelude.{◌≡◌, ℕ, ◌+◌, List, [], ◌∷◌, ◌++◌, Option}
+use Rattle.std.specs.Prelude.{◌≡◌, ◌<◌, ◌^◌, ℕ, ◌+◌, List, [], ◌∷◌, ◌++◌, Option, option_map, IfSome}
 use Rattle.pdn_schema.specs.Models.{SchemaModel}
 use Rattle.pdn_sql.specs.declared.query.Query.{Query}
-use Rattle.pdn_keeper.specs.Batches.{BatchHeld}
+use Rattle.pdn_desk_keeper.specs.Desks.{DeskHeld}
 use Rattle.pdn_query.specs.Answering.{query_script, IsAnswer}
+use Rattle.pdn_query.specs.Questions.{Told}
 use Rattle.pdn_query.specs.Script.{Script, Finish}
 
--- each query in order, with its number and its ticket
-abbrev pub queries_script : SchemaModel → ℕ → ℕ → List Query → Script
-queries_script s number ticket [] = Finish
-queries_script s number ticket (query ∷ queries) = query_script s number ticket query (queries_script s (number + 1) (ticket + 1) queries)
+-- each query in order, with its number
+abbrev pub queries_script : SchemaModel → ℕ → List Query → Script
+queries_script s number [] = Finish
+queries_script s number (query ∷ queries) = query_script s number query (queries_script s (number + 1) queries)
 
--- the text is the answers to these queries, one after the other
-abbrev pub AreAnswers : Option (List BatchHeld) → Option (List BatchHeld) → SchemaModel → ℕ → ℕ → List Query → List ℕ → Type 0
-AreAnswers kept_a kept_b s number ticket [] text = text ≡ []
-AreAnswers kept_a kept_b s number ticket (query ∷ queries) text = (first : List ℕ) × (more : List ℕ) × (text ≡ first ++ more)
-    × IsAnswer kept_a kept_b s number ticket query first × AreAnswers kept_a kept_b s (number + 1) (ticket + 1) queries more
+-- the desk after so many more tickets were given
+abbrev pub with_given : ℕ → Option DeskHeld → Option DeskHeld
+with_given count desk = option_map (λ (held : DeskHeld). record held { next = held.next + count }) desk
+
+-- so many tickets are left
+abbrev pub AreLeft : Option DeskHeld → ℕ → Type 0
+AreLeft desk count = IfSome desk (λ held. (k : ℕ) → k < count → held.next + k < 2 ^ 40)
+
+-- it is the ticket that is given after so many others
+abbrev pub IsGiven : Option DeskHeld → ℕ → ℕ → Type 0
+IsGiven desk before ticket = (ticket < 2 ^ 40) × IfSome desk (λ held. ticket ≡ held.next + before)
+
+-- the text is the answers to these queries, one after the other, before which so many tickets were given
+abbrev pub AreAnswers : Told → SchemaModel → ℕ → ℕ → List Query → List ℕ → Type 0
+AreAnswers told s number before [] text = text ≡ []
+AreAnswers told s number before (query ∷ queries) text = (ticket : ℕ) × (first : List ℕ) × (more : List ℕ) × (text ≡ first ++ more) × IsGiven told.desk before ticket
+    × IsAnswer told.a told.b s number ticket query first × AreAnswers told s (number + 1) (before + 1) queries more

@@ -3,7 +3,6 @@ ghost use Rattle.std.specs.Prelude.{◌≡◌, ◌<◌, [], ℕ, List, Some, len
 ghost use Rattle.std.specs.String.{string_bytes};
 ghost use Rattle.pdn_base.specs.Bounds.{IsShort};
 ghost use Rattle.pdn_base.specs.Operators.{Rows as RowsModel};
-ghost use Rattle.pdn_base.specs.Texts.{refusal};
 ghost use Rattle.pdn_schema.specs.Models.{table_of};
 ghost use Rattle.pdn_query.specs.Questions.{OnlyAt};
 ghost use Rattle.pdn_query.specs.Script.{Script, column_name};
@@ -13,9 +12,9 @@ ghost use Rattle.pdn_query.specs.World.{WorldModel};
 ghost use Rattle.pdn_script.specs.Stops.{end_of, stop_of, IsRefusal};
 
 use crate::inputs::{read_inputs, table_number};
-use pdn_base::{Memory, Name, Rows, Site, Status, Who};
+use pdn_base::{Memory, Name, Rows, Site, Status};
 use pdn_keeper::{AddErr, Added, CsvErr, import_csv};
-use pdn_query::{Batch, Outside, column_name, say, who_of};
+use pdn_query::{Batch, Outside, column_name, failed_line, say, who_of};
 use pdn_schema::{Schema, Table};
 use pdn_script::{Stop, refused, refused_at};
 use std::alloc::Global;
@@ -116,14 +115,6 @@ fn hand_over<W: Outside>(
         Err(AddErr::OverRows { .. }) => Err(refused(alloc, Status::OverBound { column: None })),
         Err(AddErr::OverPer { column, .. }) => Err(over_per(alloc, named, column)),
     }
-}
-
-// The line that names a site that failed.
-fn failed_line(alloc: Global, who: Who) -> Result<String, Memory>
-    ensures { IfOk result (λ line. string_bytes line ≡ refusal [] [] (Status.Unavailable who)) }
-{
-    let status = Status::Unavailable { who };
-    status.line(alloc, "", "")
 }
 
 // The refusal of too many rows of one value of a column.

@@ -5,6 +5,7 @@ ghost use Rattle.pdn_plan.specs.Answer.{IsWritten};
 ghost use Rattle.pdn_query.specs.Answering.{query_script};
 ghost use Rattle.pdn_commands.specs.Running.{queries_script};
 ghost use Rattle.pdn_commands.specs.Commands.{run_script};
+ghost use Rattle.pdn_query.specs.Questions.{OnlyDesk};
 ghost use Rattle.pdn_query.specs.Script.{Script};
 ghost use Rattle.pdn_query.specs.Walk.{Came, Along};
 ghost use Rattle.pdn_script.specs.Stops.{end_of};
@@ -19,7 +20,7 @@ use pdn_sql::Query;
 use std::alloc::Global;
 use std::thread::Threads;
 
-/// Answers the queries of the file in order, each in one put, up to the first that is refused.
+/// Answers the queries of the file in order, each with a ticket and in one put, up to the first that is refused.
 pub fn run<R: Threads + Sync, W: Outside, D: Deal>(
     alloc: Global,
     file: &str,
@@ -28,7 +29,7 @@ pub fn run<R: Threads + Sync, W: Outside, D: Deal>(
 ) -> Result<(), Stop>
     ensures goes { Along (W.state world.old) (W.state world.new)
         (run_script file.now) (end_of result) }
-    ensures same { (W.state world.new).told ≡ (W.state world.old).told }
+    ensures only { OnlyDesk (W.state world.old).told (W.state world.new).told }
 {
     let inputs = read_inputs(alloc, file, world)?;
     let queries = queries_of(alloc, &inputs.text)?;
@@ -36,7 +37,7 @@ pub fn run<R: Threads + Sync, W: Outside, D: Deal>(
     answer_all(alloc, &inputs.schema, &queries, world, crew)
 }
 
-// Each query in order. The number of one, and its ticket, count those before it, from 1 and from 0.
+// Each query in order, with its number, from 1 on.
 fn answer_all<R: Threads + Sync, W: Outside, D: Deal>(
     alloc: Global,
     schema: &Schema,
@@ -46,13 +47,12 @@ fn answer_all<R: Threads + Sync, W: Outside, D: Deal>(
 ) -> Result<(), Stop>
     requires { AllByRecursion IsWritten queries.now }
     ensures goes { Along (W.state world.old) (W.state world.new)
-        (queries_script schema.now 1 0 queries.now) (end_of result) }
-    ensures same { (W.state world.new).told ≡ (W.state world.old).told }
+        (queries_script schema.now 1 queries.now) (end_of result) }
+    ensures only { OnlyDesk (W.state world.old).told (W.state world.new).told }
 {
     for (i, query) in queries.iter().enumerate() {
         let asked = Numbered {
             number: i as u64 + 1,
-            ticket: i as u64,
             query,
         };
         answer(alloc, schema, asked, world, crew)?;
@@ -71,10 +71,9 @@ fn answer<R: Threads + Sync, W: Outside, D: Deal>(
     requires written { IsWritten asked.query.now }
     ensures came { (rest : Script) →
         Came (W.state world.old) (W.state world.new)
-        (query_script schema.now asked.entry.number asked.entry.ticket
-        asked.entry.query.now rest)
+        (query_script schema.now asked.entry.number asked.entry.query.now rest)
         (λ _. rest) result }
-    ensures same { (W.state world.new).told ≡ (W.state world.old).told }
+    ensures only { OnlyDesk (W.state world.old).told (W.state world.new).told }
 {
     let text = query_answer(alloc, schema, asked, world, crew)?;
     say(world, &text)

@@ -4,7 +4,9 @@ ghost use Rattle.std.specs.String.{string_bytes};
 ghost use Rattle.pdn_base.specs.declared.site.Site.TheVariants.{A, B};
 ghost use Rattle.pdn_base.specs.declared.status.Who.{Who};
 ghost use Rattle.pdn_commands.specs.Causes.{Cause, IsDone};
-ghost use Rattle.pdn_commands.specs.Commands.{script, task_of, loads};
+ghost use Rattle.pdn_commands.specs.Commands.{script, task_of, loads, runs};
+ghost use Rattle.pdn_query.specs.Questions.{OnlyDesk};
+ghost use Rattle.pdn_query.specs.DeskCalls.{AsksTickets};
 ghost use Rattle.pdn_query.specs.Walk.{Along, Answered, NoMemory, Wrote, Clears, IsDue};
 ghost use Rattle.pdn_query.specs.World.{RoseIn, NotFallen};
 ghost use Rattle.pdn_script.specs.Stops.{end_of};
@@ -58,14 +60,42 @@ pub fn pdn<R: Threads + Sync, W: Outside, D: Deal>(
         → ((who : Who) → RoseIn old.counts (W.state world.new).counts who → ⊥)
         → (result ≡ Status.Done) ⊎ (result ≡ Status.Memory) }
 
-    // Only the keeper that a load names changes, and none where memory ran out.
+    // Only the keeper that a load names changes, and none where memory ran out; only a run takes tickets.
     ensures kept_a { loads A (task_of (map string_bytes words.now)) ≡ false
         → (W.state world.new).told.a ≡ (W.state world.old).told.a }
     ensures kept_b { loads B (task_of (map string_bytes words.now)) ≡ false
         → (W.state world.new).told.b ≡ (W.state world.old).told.b }
-    ensures spared { result ≡ Status.Memory → (W.state world.new).told ≡ (W.state world.old).told }
+    ensures spared { result ≡ Status.Memory
+        → OnlyDesk (W.state world.old).told (W.state world.new).told }
+    ensures desk { runs (task_of (map string_bytes words.now)) ≡ false
+        → (W.state world.new).told.desk ≡ (W.state world.old).told.desk }
+
+    // Of the desk tickets alone are asked for, whatever the status; that the tickets of such runs rise is `tickets_rise`.
+    ensures asked { AsksTickets (W.state world.old).told.desk (W.state world.new).told.desk }
 
     // The count of faults of an object never falls.
+    ensures later { NotFallen (W.state world.old).counts (W.state world.new).counts }
+{
+    perform(rt, alloc, words, world, deal)
+}
+
+fn perform<R: Threads + Sync, W: Outside, D: Deal>(
+    rt: &R,
+    alloc: Global,
+    words: &[String],
+    world: &mut W,
+    deal: &D,
+) -> Status
+    ensures answers { Answered (W.state world.old) (W.state world.new)
+        (script (map string_bytes words.now)) result }
+    ensures kept_a { loads A (task_of (map string_bytes words.now)) ≡ false
+        → (W.state world.new).told.a ≡ (W.state world.old).told.a }
+    ensures kept_b { loads B (task_of (map string_bytes words.now)) ≡ false
+        → (W.state world.new).told.b ≡ (W.state world.old).told.b }
+    ensures spared { result ≡ Status.Memory
+        → OnlyDesk (W.state world.old).told (W.state world.new).told }
+    ensures desk { runs (task_of (map string_bytes words.now)) ≡ false
+        → (W.state world.new).told.desk ≡ (W.state world.old).told.desk }
     ensures later { NotFallen (W.state world.old).counts (W.state world.new).counts }
 {
     let came = follow(rt, alloc, words, world, deal);
@@ -87,7 +117,9 @@ fn follow<R: Threads + Sync, W: Outside, D: Deal>(
     ensures kept_b { loads B (task_of (map string_bytes words.now)) ≡ false
         → (W.state world.new).told.b ≡ (W.state world.old).told.b }
     ensures spared { end_of result ≡ NoMemory
-        → (W.state world.new).told ≡ (W.state world.old).told }
+        → OnlyDesk (W.state world.old).told (W.state world.new).told }
+    ensures desk { runs (task_of (map string_bytes words.now)) ≡ false
+        → (W.state world.new).told.desk ≡ (W.state world.old).told.desk }
 {
     match read_command(words) {
         Some(Command::Run { file, workers }) => {

@@ -1,26 +1,25 @@
 -- Going along the script of queries.
 use Rattle.std.proofs.Common.{◌≡◌, ℕ, suc, zero, ◌+◌, ◌≤◌, ◌<◌, ◌++◌, List, [], ◌∷◌, length, drop, get_or, refl, sym, subst, ap, ◌∙◌, None, Some, Ok, inl, inr, arith, append-nil, append_assoc}
 use Rattle.std.proofs.lemmas.List.{drop_more, drop_all}
-use Rattle.std.specs.Prelude.{Bool, true, false}
+use Rattle.std.specs.Prelude.{Bool, true, false, Result, Err, MatchResult}
 use Rattle.pdn_base.specs.Operators.{Rows}
 use Rattle.pdn_base.specs.declared.site.Site.{Site}
 use Rattle.pdn_base.specs.declared.site.Site.TheVariants.{A, B}
 use Rattle.pdn_base.specs.declared.status.Status.TheVariants as status
 use Rattle.pdn_schema.specs.Models.{SchemaModel, TableModel, no_table}
-use Rattle.pdn_schema.specs.Rows.{IsValid, AreValid, union}
-use Rattle.pdn_sql.specs.declared.query.Query.{Query}
-use Rattle.pdn_plan.specs.Answer.{answer}
+use Rattle.pdn_schema.specs.Rows.{IsValid, AreValid}
 use Rattle.pdn_tree.specs.declared.node.Node.{Node}
 use Rattle.pdn_tree.specs.declared.plan.OutColumn.{OutColumn}
 use Rattle.pdn_site.specs.Models.{UnitModel}
 use Rattle.pdn_site.specs.Compiling.{Compiled}
+use Rattle.pdn_broker.specs.Prepared.{PreparedModel}
 use Rattle.pdn_script.specs.Stops.{IsRefusal, stop_of}
 use Rattle.pdn_script.specs.declared.stop.Stop.{Stop}
-use Rattle.pdn_query.specs.Answering.{scans, asking_if, asking, wrong_column, or_wrong, judging, units_over, or_large, judging_both, answer_text, AllValid}
-use Rattle.pdn_query.specs.Gathering.{WrongRows, WrongTable, LargeUnit, NotReady, IsMeant}
+use Rattle.pdn_query.specs.Answering.{scans, asking_if, asking, wrong_column, or_wrong, judging, units_over, or_large, judging_both, ticketing, answer_text, AllValid}
+use Rattle.pdn_query.specs.Gathering.{WrongRows, WrongTable, LargeUnit, NotReady, AreReady}
 use Rattle.pdn_query.specs.Questions.{Valid}
 use Rattle.pdn_query.specs.Script.{Script}
-use Rattle.pdn_query.specs.Walk.{End, NoMemory, Along, Leads}
+use Rattle.pdn_query.specs.Walk.{End, NoMemory, Along, Leads, Came}
 use Rattle.pdn_query.specs.World.{WorldModel}
 use Rattle.pdn_query.proofs.Walks.{leads_on, leads_along, begun, halted, known, refused}
 
@@ -112,18 +111,27 @@ module _ (w : WorldModel) where
 
   module _ (s : SchemaModel) (root : Node) (a b : List Rows) where
     -- what is ready
-    pub ready_on : (query : Query) (rows : Rows) (next : Script) → IsMeant s query root a b rows → Leads w w (judging_both s root a b next) next
-    ready_on query rows next m = leads_on (all_judged s A a _ m.valid_a) (leads_on (all_judged s B b _ m.valid_b) (units_on next m.units (units_over s root a b) m.fits))
-
-    pub answer_on : (query : Query) (number ticket : ℕ) (columns : List OutColumn) (next : List ℕ → Script) (rows : Rows) (text : List ℕ) → IsMeant s query root a b rows →
-        text ≡ answer_text number ticket columns rows → Leads w w (judging_both s root a b (next (answer_text number ticket columns (answer s (union a b) query)))) (next text)
-    answer_on query number ticket columns next rows text m printed =
-        let whole : List ℕ = answer_text number ticket columns (answer s (union a b) query) in
-        subst (λ (xs : List ℕ). Leads w w (judging_both s root a b (next whole)) (next xs)) (sym (printed ∙ ap (answer_text number ticket columns) m.means)) (ready_on query rows (next whole) m)
+    ready_on : (next : Script) (p : PreparedModel) → AreReady s root a b p → Leads w w (judging_both s root a b next) next
+    ready_on next p m = leads_on (all_judged s A a _ m.valid_a) (leads_on (all_judged s B b _ m.valid_b) (units_on next m.units (units_over s root a b) m.fits))
 
     -- what isn't
-    pub unready : (next : Script) (stop : Stop) → length a ≡ length s.tables → length b ≡ length s.tables → NotReady s root a b stop → Along w w (judging_both s root a b next) (stop_of stop)
+    unready : (next : Script) (stop : Stop) → length a ≡ length s.tables → length b ≡ length s.tables → NotReady s root a b stop → Along w w (judging_both s root a b next) (stop_of stop)
     unready next stop ea eb (inl t) = wrong_table s A a _ stop ea t
     unready next stop ea eb (inr (inl (va, t))) = leads_along (all_judged s A a _ va) (wrong_table s B b _ stop eb t)
     unready next stop ea eb (inr (inr (inl (va, vb, u)))) = leads_along (all_judged s A a _ va) (leads_along (all_judged s B b _ vb) (large next s root a b stop u))
     unready next stop ea eb (inr (inr (inr short))) = halted w (judging_both s root a b next) (stop_of stop) short
+
+    -- made ready, or refused
+    pub gathered : (next : List Rows → List Rows → Script) (result : Result PreparedModel Stop) → length a ≡ length s.tables → length b ≡ length s.tables →
+        MatchResult result (AreReady s root a b) (NotReady s root a b) → Came w w (judging_both s root a b (next a b)) (λ p. next p.a.tables p.b.tables) result
+    gathered next (Ok p) ea eb ready = rw (ready.made.a, ready.made.b) (ready_on (next a b) p ready)
+    gathered next (Err stop) ea eb not = unready (next a b) stop ea eb not
+
+-- ---- tickets
+
+-- a ticket is taken, and the text is the answer with it
+pub given_text : (w now : WorldModel) (next : List ℕ → Script) (number ticket : ℕ) (columns : List OutColumn) (means rows : Rows) (text : List ℕ) → rows ≡ means → text ≡ answer_text number ticket columns rows →
+    ((after : ℕ → Script) → Leads w now (ticketing after) (after ticket)) → Leads w now (ticketing (λ given. next (answer_text number given columns means))) (next text)
+given_text w now next number ticket columns means rows text is printed takes =
+    subst (λ (xs : List ℕ). Leads w now (ticketing (λ given. next (answer_text number given columns means))) (next xs)) (sym (printed ∙ ap (answer_text number ticket columns) is))
+    (takes (λ given. next (answer_text number given columns means)))

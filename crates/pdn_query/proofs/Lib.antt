@@ -2,3 +2,4 @@ pub mod Walks
 pub mod Worlds
 pub mod Gathers
 pub mod Ready
+pub mod DeskCalls

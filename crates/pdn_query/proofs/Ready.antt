@@ -1,17 +1,18 @@
 -- A query made ready over both sites' tables.
-use Rattle.std.proofs.Common.{◌≡◌, List, subst, ap, ◌∙◌, Ok}
+use Rattle.std.proofs.Common.{◌≡◌, List, sym, subst, ap, ◌∙◌, Result, Ok, Err}
+use Rattle.std.specs.Prelude.{MatchResult, IfOk}
 use Rattle.pdn_base.specs.Operators.{Rows}
 use Rattle.pdn_schema.specs.Models.{SchemaModel}
-use Rattle.pdn_schema.specs.Rows.{AreValid, union}
+use Rattle.pdn_schema.specs.Rows.{AreValid}
 use Rattle.pdn_sql.specs.declared.query.Query.{Query}
 use Rattle.pdn_tree.specs.declared.node.Node.{Node}
-use Rattle.pdn_plan.specs.Answer.{answer}
 use Rattle.pdn_plan.specs.Binding.{plan}
 use Rattle.pdn_plan.specs.Planning.{root}
 use Rattle.pdn_tree.specs.Plans.{PlanModel}
 use Rattle.pdn_broker.specs.Prepared.{PreparedModel, IsPrepared, IsOf}
+use Rattle.pdn_script.specs.declared.stop.Stop.{Stop}
 use Rattle.pdn_query.specs.Answering.{units_over}
-use Rattle.pdn_query.specs.Gathering.{IsMeant}
+use Rattle.pdn_query.specs.Gathering.{AreReady, IsReady, NotReady}
 use Rattle.pdn_query.specs.Questions.{IsBound}
 
 -- ---- a query that has a plan
@@ -40,17 +41,32 @@ module _ (s : SchemaModel) (top : Node) (a b : List Rows) (p : PreparedModel) (i
   ready_b : IsPrepared p → AreValid s p.b.tables
   ready_b kept = subst (λ (schema : SchemaModel). AreValid schema p.b.tables) of_schema kept.tables_b.valid
 
-  pub ready_root : (query : Query) (plan : PlanModel) → IsBound s query (Ok plan) → top ≡ plan.root → p.a.root ≡ root s query
-  ready_root query plan binds e = of_root ∙ e ∙ bound_root s query plan binds
-
   ready_units : IsPrepared p → units_over s top a b ≡ Ok p.units
   ready_units kept = rw (← of_schema, ← of_root, ← of_a, ← of_b) kept.units
 
-  pub ready_meant : (query : Query) (rows : Rows) → IsPrepared p → rows ≡ answer s (union p.a.tables p.b.tables) query → IsMeant s query top a b rows
-  ready_meant query rows kept e = record {
+  pub are_ready : IsPrepared p → AreReady s top a b p
+  are_ready kept = record {
     valid_a = subst (AreValid s) of_a (ready_a kept);
     valid_b = subst (AreValid s) of_b (ready_b kept);
     units = p.units;
     fits = ready_units kept;
-    means = rw (← of_a, ← of_b) e;
+    made = is;
   }
+
+-- ---- a query that is ready
+module _ (s : SchemaModel) (top : Node) (a b : List Rows) (p : PreparedModel) (ready : AreReady s top a b p) where
+  made_valid_a : AreValid s p.a.tables
+  made_valid_a = subst (AreValid s) (sym ready.made.a) ready.valid_a
+
+  made_valid_b : AreValid s p.b.tables
+  made_valid_b = subst (AreValid s) (sym ready.made.b) ready.valid_b
+
+  is_ready : IsReady s top p
+  is_ready = record { root_is = ready.made.root; valid_a = made_valid_a; valid_b = made_valid_b }
+
+pub where_ready : (s : SchemaModel) (top : Node) (a b : List Rows) (result : Result PreparedModel Stop) → MatchResult result (AreReady s top a b) (NotReady s top a b) → IfOk result (IsReady s top)
+where_ready s top a b (Ok p) ready = is_ready s top a b p ready
+where_ready s top a b (Err stop) not = tt
+
+pub ready_root : (s : SchemaModel) (query : Query) (plan : PlanModel) (p : PreparedModel) → IsReady s plan.root p → IsBound s query (Ok plan) → p.a.root ≡ root s query
+ready_root s query plan p ready binds = ready.root_is ∙ bound_root s query plan binds

@@ -1,5 +1,5 @@
 -- Going along a script from world to world.
-use Rattle.std.proofs.Common.{◌≡◌, ℕ, ◌++◌, List, [], refl, subst, Some, Result, Ok, Err, inl, inr, arith, take, append_assoc}
+use Rattle.std.proofs.Common.{◌≡◌, ℕ, ◌++◌, List, [], refl, subst, Some, Result, Ok, Err, inl, inr, ◌∙◌, arith, take, append_assoc}
 use Rattle.std.specs.Io.KnownBytes.{Appends}
 use Rattle.pdn_base.specs.Texts.{refusal}
 use Rattle.pdn_base.specs.declared.status.Status.{Status}
@@ -9,7 +9,7 @@ use Rattle.pdn_base.specs.declared.status.Who.TheVariants.{Files, SiteA, SiteB, 
 use Rattle.pdn_script.specs.Stops.{IsRefusal, stop_of, end_of}
 use Rattle.pdn_script.specs.declared.stop.Stop.{Stop}
 use Rattle.pdn_script.proofs.Going.{refused_by, appends_nothing, appends_both, goes_within, out_of_memory, concluded}
-use Rattle.pdn_query.specs.Questions.{Question, Reply, Told, Gives, after, asked_of, questions}
+use Rattle.pdn_query.specs.Questions.{Question, Reply, Told, Gives, after, asked_of, OnlyDesk, questions}
 use Rattle.pdn_query.specs.Script.{Script, Finish, Refuse, Say, Ask}
 use Rattle.pdn_query.specs.Walk.{Goes, End, Finished, NoMemory, PutFailed, fault, Closes, Wrote, Along, Leads, Came, Answered}
 use Rattle.pdn_query.specs.World.{WorldModel, Counts, RoseIn, NotFallen, Beside, Replied, Faulted, Short, Put, Cut}
@@ -17,10 +17,10 @@ use Rattle.pdn_query.specs.World.{WorldModel, Counts, RoseIn, NotFallen, Beside,
 -- ---- counts
 
 pub steady : (counts : Counts) → NotFallen counts counts
-steady counts = record { files = omega arith; a = omega arith; b = omega arith; sink = omega arith }
+steady counts = record { files = omega arith; a = omega arith; b = omega arith; desk = omega arith; sink = omega arith }
 
 pub not_fallen : (before mid now : Counts) → NotFallen before mid → NotFallen mid now → NotFallen before now
-not_fallen before mid now f s = record { files = omega (arith, f.files, s.files); a = omega (arith, f.a, s.a); b = omega (arith, f.b, s.b); sink = omega (arith, f.sink, s.sink) }
+not_fallen before mid now f s = record { files = omega (arith, f.files, s.files); a = omega (arith, f.a, s.a); b = omega (arith, f.b, s.b); desk = omega (arith, f.desk, s.desk); sink = omega (arith, f.sink, s.sink) }
 
 -- a count that rose within rose in the whole
 pub rose_within : (before from to now : Counts) (who : Who) → NotFallen before from → NotFallen to now → RoseIn from to who → RoseIn before now who
@@ -28,7 +28,7 @@ rose_within before from to now Files f s r = omega (arith, f.files, s.files, r)
 rose_within before from to now Sink f s r = omega (arith, f.sink, s.sink, r)
 rose_within before from to now SiteA f s r = omega (arith, f.a, s.a, r)
 rose_within before from to now SiteB f s r = omega (arith, f.b, s.b, r)
-rose_within before from to now Desk f s r = r
+rose_within before from to now Desk f s r = omega (arith, f.desk, s.desk, r)
 
 -- ---- one way after the other
 
@@ -145,3 +145,13 @@ module _ (w : WorldModel) where
     later = steady w.counts;
     goes = refused_by questions (RoseIn w.counts w.counts) w.told table column status _ stop is refl;
   }
+
+-- ---- what may have changed
+
+-- only the desk, over two steps
+pub only_both : (old mid new : Told) → OnlyDesk old mid → OnlyDesk mid new → OnlyDesk old new
+only_both old mid new (files, a, b) (files_on, a_on, b_on) = (files_on ∙ files, a_on ∙ a, b_on ∙ b)
+
+-- nothing, and so only the desk
+pub only_same : (old new : Told) → new ≡ old → OnlyDesk old new
+only_same old new e = rw (e) (refl, refl, refl)

@@ -1,5 +1,5 @@
 -- How a query is answered: over the rows that both sites keep of the tables that its plan scans, with the text that says so.
-use Rattle.std.specs.Prelude.{◌≡◌, ℕ, ◌+◌, ◌==◌, Bool, true, false, ◌||◌, List, [], ◌∷◌, ◌++◌, length, map, Option, Some, None, Ok, Err, codes, decimal}
+use Rattle.std.specs.Prelude.{◌≡◌, ℕ, ◌+◌, ◌^◌, ◌==◌, nat_lt, if◌then◌else◌, Bool, true, false, ◌||◌, List, [], ◌∷◌, ◌++◌, length, map, Option, Some, None, Ok, Err, codes, decimal}
 use Rattle.std.specs.List.{flat_map}
 use Rattle.pdn_base.specs.Codes.{code_text}
 use Rattle.pdn_base.specs.Operators.{Rows}
@@ -24,7 +24,7 @@ use Rattle.pdn_site.specs.Models.{UnitModel}
 use Rattle.pdn_site.specs.Compiling.{Compiled, compiled}
 use Rattle.pdn_site.specs.NetMeaning.{site_dirs}
 use Rattle.pdn_keeper.specs.Batches.{BatchHeld}
-use Rattle.pdn_query.specs.Questions.{Kept, Valid, Keeps, IsBound}
+use Rattle.pdn_query.specs.Questions.{Kept, Valid, Ticket, Keeps, IsBound}
 use Rattle.pdn_query.specs.Script.{Script, Refuse, Say, Ask, refuse, binding, column_name}
 
 -- ---- the rows that are asked for
@@ -83,6 +83,13 @@ abbrev pub or_large : Script → Compiled → Script
 or_large next (Ok units) = next
 or_large next (Err passed) = refuse (status.TooLarge passed.0 passed.1)
 
+-- what follows the next ticket, or the refusal where none is left
+abbrev pub or_spent : (ℕ → Script) → ℕ → Script
+or_spent next ticket = if nat_lt ticket (2 ^ 40) then next ticket else refuse status.TicketsSpent
+
+abbrev pub ticketing : (ℕ → Script) → Script
+ticketing next = Ask Ticket (or_spent next)
+
 -- ---- the text of an answer
 
 abbrev pub query_name : ℕ → List ℕ
@@ -123,16 +130,20 @@ answer_text query ticket columns rows = head_line query ticket (length rows) ++ 
 abbrev pub judging_both : SchemaModel → Node → List Rows → List Rows → Script → Script
 judging_both s root a b next = judging A 0 s.tables a (judging B 0 s.tables b (or_large next (units_over s root a b)))
 
--- A's rows are asked for, and then B's, and judged; what follows are the rows that the query means over their union
-abbrev pub answering : SchemaModel → Query → PlanModel → (Rows → Script) → Script
-answering s query plan next = asking A plan.root 0 s.tables (λ a. asking B plan.root 0 s.tables (λ b. judging_both s plan.root a b (next (answer s (union a b) query))))
+-- A's rows are asked for, and then B's, and judged
+abbrev pub gathering : SchemaModel → PlanModel → (List Rows → List Rows → Script) → Script
+gathering s plan next = asking A plan.root 0 s.tables (λ a. asking B plan.root 0 s.tables (λ b. judging_both s plan.root a b (next a b)))
+
+-- then a ticket is taken; what follows are that ticket and the rows that the query means over both sites' union
+abbrev pub answering : SchemaModel → Query → PlanModel → (ℕ → Rows → Script) → Script
+answering s query plan next = gathering s plan (λ a b. ticketing (λ ticket. next ticket (answer s (union a b) query)))
 
 -- a query is bound first; what follows is the text of its answer
-abbrev pub query_answer : SchemaModel → ℕ → ℕ → Query → (List ℕ → Script) → Script
-query_answer s number ticket query next = binding s query (λ plan. answering s query plan (λ rows. next (answer_text number ticket plan.columns rows)))
+abbrev pub query_answer : SchemaModel → ℕ → Query → (List ℕ → Script) → Script
+query_answer s number query next = binding s query (λ plan. answering s query plan (λ ticket rows. next (answer_text number ticket plan.columns rows)))
 
-abbrev pub query_script : SchemaModel → ℕ → ℕ → Query → Script → Script
-query_script s number ticket query next = query_answer s number ticket query (λ text. Say text next)
+abbrev pub query_script : SchemaModel → ℕ → Query → Script → Script
+query_script s number query next = query_answer s number query (λ text. Say text next)
 
 -- ---- what an answer is
 

@@ -1,4 +1,4 @@
--- What both sites' rows of a query come to: what the query means over their union, or why they are refused.
+-- What both sites' rows of a query come to: a query that is ready, or why they are refused.
 use Rattle.std.specs.Prelude.{◌≡◌, ◌⊎◌, ◌<◌, ℕ, List, [], length, get_or, Ok, Err}
 use Rattle.pdn_base.specs.Operators.{Rows}
 use Rattle.pdn_base.specs.declared.rows_err.RowsErr.{RowsErr}
@@ -6,11 +6,10 @@ use Rattle.pdn_base.specs.declared.site.Site.{Site}
 use Rattle.pdn_base.specs.declared.site.Site.TheVariants.{A, B}
 use Rattle.pdn_base.specs.declared.status.Status.TheVariants as status
 use Rattle.pdn_schema.specs.Models.{SchemaModel, TableModel, table_of}
-use Rattle.pdn_schema.specs.Rows.{IsValid, IsRefused, AreValid, union}
-use Rattle.pdn_sql.specs.declared.query.Query.{Query}
+use Rattle.pdn_schema.specs.Rows.{IsValid, IsRefused, AreValid}
 use Rattle.pdn_tree.specs.declared.node.Node.{Node}
-use Rattle.pdn_plan.specs.Answer.{answer}
 use Rattle.pdn_site.specs.Models.{UnitModel}
+use Rattle.pdn_broker.specs.Prepared.{PreparedModel, IsOf}
 use Rattle.pdn_script.specs.declared.stop.Stop.{Stop}
 use Rattle.pdn_script.specs.Stops.{stop_of, IsRefusal}
 use Rattle.pdn_query.specs.Answering.{units_over, wrong_column}
@@ -40,10 +39,16 @@ pub record LargeUnit (s : SchemaModel) (root : Node) (a b : List Rows) (stop : S
 abbrev pub NotReady : SchemaModel → Node → List Rows → List Rows → Stop → Type 0
 NotReady s root a b stop = WrongTable s A a stop ⊎ (AreValid s a × WrongTable s B b stop) ⊎ (AreValid s a × AreValid s b × LargeUnit s root a b stop) ⊎ (stop_of stop ≡ NoMemory)
 
--- These tables are valid, the units over them pass no limit, and the query means these rows over their union.
-pub record IsMeant (s : SchemaModel) (query : Query) (root : Node) (a b : List Rows) (rows : Rows) : Type 0 where
+-- a query that is ready stands over valid tables
+pub record IsReady (s : SchemaModel) (root : Node) (p : PreparedModel) : Type 0 where
+  pub root_is : p.a.root ≡ root
+  pub valid_a : AreValid s p.a.tables
+  pub valid_b : AreValid s p.b.tables
+
+-- These tables are valid, the units over them pass no limit, and this is made of them.
+pub record AreReady (s : SchemaModel) (root : Node) (a b : List Rows) (p : PreparedModel) : Type 0 where
   pub valid_a : AreValid s a
   pub valid_b : AreValid s b
   pub units : List UnitModel
   pub fits : units_over s root a b ≡ Ok units
-  pub means : rows ≡ answer s (union a b) query
+  pub made : IsOf s root a b p

@@ -4,3 +4,4 @@ pub mod Script
 pub mod Walk
 pub mod Answering
 pub mod Gathering
+pub mod DeskCalls

@@ -1,10 +1,10 @@
 -- What a command asks: of the objects outside, and of what bytes and rows are by the definitions of the layers below.
-use Rattle.std.specs.Prelude.{◌≡◌, ◌⊎◌, ℕ, List, Option, None, Some, Result, Ok, Err, IfSome, ⊤}
+use Rattle.std.specs.Prelude.{◌≡◌, ◌⊎◌, ◌≤◌, ◌^◌, ℕ, List, Option, None, Some, Result, Ok, Err, IfSome, ⊤}
 use Rattle.csv.specs.Reading.{records, default_config, strip_bom}
 use Rattle.pdn_base.specs.declared.site.Site.{Site}
 use Rattle.pdn_base.specs.declared.site.Site.TheVariants.{A, B}
 use Rattle.pdn_base.specs.declared.status.Who.{Who}
-use Rattle.pdn_base.specs.declared.status.Who.TheVariants.{Files, SiteA, SiteB}
+use Rattle.pdn_base.specs.declared.status.Who.TheVariants.{Files, SiteA, SiteB, Desk}
 use Rattle.pdn_base.specs.declared.rows_err.RowsErr.{RowsErr}
 use Rattle.pdn_base.specs.declared.value.Value.{Value}
 use Rattle.pdn_base.specs.declared.marks.Label.{Label}
@@ -23,12 +23,14 @@ use Rattle.pdn_keeper.specs.Import.{imported}
 use Rattle.pdn_keeper.specs.declared.cause.CsvErr.TheVariants.{At}
 use Rattle.pdn_keeper.specs.declared.site_keeper.Added.TheVariants as added
 use Rattle.pdn_keeper.specs.declared.site_keeper.AddErr.TheVariants as refused
+use Rattle.pdn_desk_keeper.specs.Desks.{DeskHeld, with_ticket}
 use Rattle.pdn_script.specs.Rules.{Rules}
 
 pub data Question : Type 0 where
   File : List ℕ → Question  -- the bytes of the file of this name, or none
   Kept : Site → List ℕ → Question  -- the rows that a site keeps of the table of this name
   Batch : Site → TableModel → ℕ → List (List Value) → Question  -- a site is to take this batch of the table
+  Ticket : Question  -- the desk's next ticket, which is then taken
   SchemaIn : List ℕ → Question  -- the schema that bytes say, or the line and cause of their first fault
   QueriesIn : List ℕ → Question  -- the queries that bytes say, or the place and kind of their first fault
   Bound : SchemaModel → Query → Question  -- the plan of a query, or why it has none
@@ -52,6 +54,7 @@ abbrev pub Reply : Question → Type 0
 Reply (File name) = Option (List ℕ)
 Reply (Kept site name) = List (List Value)
 Reply (Batch site t number rows) = Answer
+Reply Ticket = ℕ
 Reply (SchemaIn bytes) = Result SchemaModel (ℕ × ℕ)
 Reply (QueriesIn bytes) = Result (List Query) (ℕ × ℕ)
 Reply (Bound s query) = Result PlanModel Unbound
@@ -67,6 +70,7 @@ abbrev pub asked_of : Question → Option Who
 asked_of (File name) = Some Files
 asked_of (Kept site name) = Some (who_of site)
 asked_of (Batch site t number rows) = Some (who_of site)
+asked_of Ticket = Some Desk
 asked_of (SchemaIn bytes) = None
 asked_of (QueriesIn bytes) = None
 asked_of (Bound s query) = None
@@ -78,17 +82,21 @@ pub record Told : Type 0 where
   pub files : Option (List ℕ → Option (List ℕ))
   pub a : Option (List BatchHeld)
   pub b : Option (List BatchHeld)
+  pub desk : Option DeskHeld
 
-abbrev pub told_by : Option (List ℕ → Option (List ℕ)) → Option (List BatchHeld) → Option (List BatchHeld) → Told
-told_by files a b = record { files = files; a = a; b = b }
+abbrev pub told_by : Option (List ℕ → Option (List ℕ)) → Option (List BatchHeld) → Option (List BatchHeld) → Option DeskHeld → Told
+told_by files a b desk = record { files = files; a = a; b = b; desk = desk }
 
 abbrev pub kept_at : Told → Site → Option (List BatchHeld)
 kept_at told A = told.a
 kept_at told B = told.b
 
 abbrev pub with_kept : Told → Site → Option (List BatchHeld) → Told
-with_kept told A held = record { files = told.files; a = held; b = told.b }
-with_kept told B held = record { files = told.files; a = told.a; b = held }
+with_kept told A held = record { files = told.files; a = held; b = told.b; desk = told.desk }
+with_kept told B held = record { files = told.files; a = told.a; b = held; desk = told.desk }
+
+abbrev pub with_desk : Told → Option DeskHeld → Told
+with_desk told held = record { files = told.files; a = told.a; b = told.b; desk = held }
 
 -- ---- which replies are true
 
@@ -107,6 +115,10 @@ Answers t held number rows Again = IsAnswer t held number rows (Ok added.Again)
 Answers t held number rows (Differs at) = (kept : Option (List Value)) × IsAnswer t held number rows (Err (refused.Differs at kept))
 Answers t held number rows OverRows = (kept : ℕ) × IsAnswer t held number rows (Err (refused.OverRows kept))
 Answers t held number rows (OverPer column) = (v : Value) × (kept : ℕ) × IsAnswer t held number rows (Err (refused.OverPer column v kept))
+
+-- The desk gives its next ticket, as far as it tells. At 2 ^ 40 there is none left.
+abbrev pub IsNext : Option DeskHeld → ℕ → Type 0
+IsNext desk ticket = (ticket ≤ 2 ^ 40) × IfSome desk (λ held. ticket ≡ held.next)
 
 abbrev pub IsSchemaIn : List ℕ → Result SchemaModel (ℕ × ℕ) → Type 0
 IsSchemaIn bytes (Ok s) = Says bytes s
@@ -136,6 +148,7 @@ abbrev pub Gives : Told → (question : Question) → Reply question → Type 0
 Gives told (File name) content = Holds told.files name content
 Gives told (Kept site name) rows = Keeps (kept_at told site) name rows
 Gives told (Batch site t number rows) answer = IfSome (kept_at told site) (λ held. Answers t held number rows answer)
+Gives told Ticket ticket = IsNext told.desk ticket
 Gives told (SchemaIn bytes) schema = IsSchemaIn bytes schema
 Gives told (QueriesIn bytes) queries = AreQueriesIn bytes queries
 Gives told (Bound s query) plan = IsBound s query plan
@@ -146,11 +159,19 @@ Gives told (Valid t rows) wrong = IsWrong t rows wrong
 
 -- only what this site holds may have changed
 abbrev pub OnlyAt : Site → Told → Told → Type 0
-OnlyAt A old new = (new.files ≡ old.files) × (new.b ≡ old.b)
-OnlyAt B old new = (new.files ≡ old.files) × (new.a ≡ old.a)
+OnlyAt A old new = (new.files ≡ old.files) × (new.b ≡ old.b) × (new.desk ≡ old.desk)
+OnlyAt B old new = (new.files ≡ old.files) × (new.a ≡ old.a) × (new.desk ≡ old.desk)
+
+-- only what the desk holds may have changed
+abbrev pub OnlyDesk : Told → Told → Type 0
+OnlyDesk old new = (new.files ≡ old.files) × (new.a ≡ old.a) × (new.b ≡ old.b)
 
 abbrev pub with_new : Told → Site → BatchHeld → Told
 with_new told site batch = with_kept told site (with_batch batch (kept_at told site))
+
+-- a ticket is taken
+abbrev pub with_taken : Told → Told
+with_taken told = with_desk told (with_ticket told.desk)
 
 abbrev pub after_batch : Told → Site → BatchHeld → Answer → Told
 after_batch told site batch New = with_new told site batch
@@ -159,22 +180,24 @@ after_batch told site batch (Differs at) = told
 after_batch told site batch OverRows = told
 after_batch told site batch (OverPer column) = told
 
--- after a reply: a new batch is kept
+-- after a reply: a new batch is kept, or a ticket is taken
 abbrev pub after : Told → (question : Question) → Reply question → Told
 after told (File name) content = told
 after told (Kept site name) rows = told
 after told (Batch site t number rows) answer = after_batch told site (batch_held t.name number rows) answer
+after told Ticket ticket = with_taken told
 after told (SchemaIn bytes) schema = told
 after told (QueriesIn bytes) queries = told
 after told (Bound s query) plan = told
 after told (RowsIn t bytes) rows = told
 after told (Valid t rows) wrong = told
 
--- where the object failed: a batch that was handed over may be kept
+-- where the object failed: a batch that was handed over may be kept, a ticket that was asked for taken
 abbrev pub AfterFault : Told → Question → Told → Type 0
 AfterFault told (File name) now = now ≡ told
 AfterFault told (Kept site name) now = now ≡ told
 AfterFault told (Batch site t number rows) now = (now ≡ told) ⊎ (now ≡ with_new told site (batch_held t.name number rows))
+AfterFault told Ticket now = (now ≡ told) ⊎ (now ≡ with_taken told)
 AfterFault told (SchemaIn bytes) now = now ≡ told
 AfterFault told (QueriesIn bytes) now = now ≡ told
 AfterFault told (Bound s query) now = now ≡ told

@@ -15,13 +15,14 @@ use Rattle.pdn_keeper.specs.declared.site_keeper.Added.{Added}
 use Rattle.pdn_keeper.specs.declared.site_keeper.Added.TheVariants as added
 use Rattle.pdn_keeper.specs.declared.site_keeper.AddErr.{AddErr}
 use Rattle.pdn_keeper.specs.declared.site_keeper.AddErr.TheVariants as unadded
-use Rattle.pdn_query.specs.Questions.{Question, File, Kept, Batch, Reply, Answer, New, Again, Differs, OverRows, OverPer, Told, asked_of, Gives, after, AfterFault}
+use Rattle.pdn_query.specs.Questions.{Question, File, Kept, Batch, Ticket, Reply, Answer, New, Again, Differs, OverRows, OverPer, Told, asked_of, Gives, after, AfterFault}
 
 -- how often each object has failed
 pub record Counts : Type 0 where
   pub files : ℕ
   pub a : ℕ
   pub b : ℕ
+  pub desk : ℕ
   pub sink : ℕ
 
 -- the objects whose count rose between
@@ -30,13 +31,14 @@ RoseIn before now Files = Rose before.files now.files
 RoseIn before now Sink = Rose before.sink now.sink
 RoseIn before now SiteA = Rose before.a now.a
 RoseIn before now SiteB = Rose before.b now.b
-RoseIn before now Desk = ⊥
+RoseIn before now Desk = Rose before.desk now.desk
 
 -- no count fell between
 pub record NotFallen (before now : Counts) : Type 0 where
   pub files : before.files ≤ now.files
   pub a : before.a ≤ now.a
   pub b : before.b ≤ now.b
+  pub desk : before.desk ≤ now.desk
   pub sink : before.sink ≤ now.sink
 
 pub record WorldModel : Type 0 where
@@ -76,6 +78,10 @@ NotRead old new name unread.Memory = Short old new
 abbrev pub NotKept : WorldModel → WorldModel → Site → List ℕ → KeepErr → Type 0
 NotKept old new site name unkept.Failed = Faulted old new (Kept site name)
 NotKept old new site name unkept.Memory = Short old new
+
+abbrev pub NotGiven : WorldModel → WorldModel → KeepErr → Type 0
+NotGiven old new unkept.Failed = Faulted old new Ticket
+NotGiven old new unkept.Memory = Short old new
 
 abbrev pub answer_of : Added → Answer
 answer_of added.New = New

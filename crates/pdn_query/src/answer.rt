@@ -1,5 +1,5 @@
 //! The answer to a query: both sites' rows are asked for, judged, and answered over their union.
-ghost use Rattle.std.specs.Prelude.{◌≡◌, ◌<◌, ◌-◌, ◌^◌, ℕ, List, None, Ok, length, true, IfOk, MatchResult};
+ghost use Rattle.std.specs.Prelude.{◌≡◌, ◌<◌, ◌-◌, ◌^◌, ℕ, List, None, length, true, IfOk, MatchResult};
 ghost use Rattle.std.specs.List.{All};
 ghost use Rattle.std.specs.String.{string_bytes};
 ghost use Rattle.pdn_base.specs.Operators.{Rows as RowsModel};
@@ -9,10 +9,10 @@ ghost use Rattle.pdn_plan.specs.Answer.{IsWritten, answer};
 ghost use Rattle.pdn_plan.specs.Binding.{refusal};
 ghost use Rattle.pdn_plan.specs.Planning.{root};
 ghost use Rattle.pdn_tree.specs.Shapes.{shape};
-ghost use Rattle.pdn_broker.specs.Prepared.{IsPrepared, IsOf};
-ghost use Rattle.pdn_query.specs.Answering.{query_answer, wrong_column};
-ghost use Rattle.pdn_query.specs.Gathering.{NotReady, IsMeant};
-ghost use Rattle.pdn_query.specs.Questions.{IsBound};
+ghost use Rattle.pdn_broker.specs.Prepared.{IsPrepared};
+ghost use Rattle.pdn_query.specs.Answering.{gathering, query_answer, wrong_column};
+ghost use Rattle.pdn_query.specs.Gathering.{NotReady, AreReady, IsReady};
+ghost use Rattle.pdn_query.specs.Questions.{OnlyDesk};
 ghost use Rattle.pdn_query.specs.Script.{Script};
 ghost use Rattle.pdn_query.specs.Walk.{Came};
 ghost use Rattle.pdn_script.specs.Stops.{IsRefusal};
@@ -21,6 +21,7 @@ use crate::answer_text::answer_text;
 use crate::binding::bound;
 use crate::columns::column_name;
 use crate::tables::tables_at;
+use crate::tickets::next_ticket;
 use crate::workers::Crew;
 use crate::world::Outside;
 use pdn_base::{Memory, Rows, RowsErr, Site, Status, Tables};
@@ -33,15 +34,15 @@ use pdn_sql::Query;
 use std::alloc::Global;
 use std::thread::Threads;
 
-/// A query of a file: its number there, and the ticket of its sections of the tape.
+/// A query of a file, with its number there.
 #[derive(Clone, Copy)]
 pub struct Numbered<'a> {
     pub number: u64,
-    pub ticket: u64,
     pub query: &'a Query,
 }
 
-/// The text of the answer to a query, over the rows of both sites.
+/// The text of the answer to a query, over the rows of both sites. Its ticket is taken of the desk when nothing is left to
+/// be refused.
 pub fn query_answer<R: Threads + Sync, W: Outside, D: Deal>(
     alloc: Global,
     schema: &Schema,
@@ -52,50 +53,34 @@ pub fn query_answer<R: Threads + Sync, W: Outside, D: Deal>(
     requires written { IsWritten asked.query.now }
     ensures came { (next : List ℕ → Script) →
         Came (W.state world.old) (W.state world.new)
-        (query_answer schema.now asked.entry.number asked.entry.ticket
-        asked.entry.query.now next)
-        (λ text. next text.items) result }
-    ensures same { (W.state world.new).told ≡ (W.state world.old).told }
+            (query_answer schema.now asked.entry.number asked.entry.query.now next)
+            (λ text. next text.items) result }
+    ensures only { OnlyDesk (W.state world.old).told (W.state world.new).told }
 {
     let plan = bound(alloc, schema, asked.query)?;
-    let a = tables_at(alloc, Site::A, schema, &plan, world)?;
-    let b = tables_at(alloc, Site::B, schema, &plan, world)?;
-    let rows = meant_rows(alloc, schema, asked, &plan, a, b, crew)?;
-    Ok(answer_text(alloc, asked.number, asked.ticket, &plan, &rows)?)
+    let prepared = gathered(alloc, schema, &plan, world)?;
+    let ticket = next_ticket(alloc, world)?;
+    let rows = answered_rows(alloc, schema, asked.query, ticket, prepared, crew)?;
+    Ok(answer_text(alloc, asked.number, ticket, &plan, &rows)?)
 }
 
-// The rows that a query means over the union of both sites' tables, or the refusal.
-fn meant_rows<R: Threads + Sync, D: Deal>(
+// The query made ready over the rows that both sites keep of the tables that it scans, or the refusal.
+fn gathered<W: Outside>(
     alloc: Global,
     schema: &Schema,
-    asked: Numbered<'_>,
     plan: &Plan,
-    a: Tables,
-    b: Tables,
-    crew: &Crew<'_, R, D>,
-) -> Result<Rows, Stop>
-    requires written { IsWritten asked.query.now }
-    requires binds { IsBound schema.now asked.query.now (Ok plan.now) }
-    requires sound { (shape schema.now plan.now.root).sound ≡ true }
-    requires count_a { length a ≡ length schema.now.tables }
-    requires count_b { length b ≡ length schema.now.tables }
-    requires few_a { All (λ (rows : RowsModel). length rows < 2 ^ 32 - 1) a }
-    requires few_b { All (λ (rows : RowsModel). length rows < 2 ^ 32 - 1) b }
-    ensures { MatchResult result
-        (λ rows. IsMeant schema.now asked.entry.query.now plan.now.root a b rows)
-        (NotReady schema.now plan.now.root a b) }
+    world: &mut W,
+) -> Result<Prepared, Stop>
+    requires { (shape schema.now plan.now.root).sound ≡ true }
+    ensures came { (next : List RowsModel → List RowsModel → Script) →
+        Came (W.state world.old) (W.state world.new) (gathering schema.now plan.now next)
+        (λ prepared. next prepared.a.tables prepared.b.tables) result }
+    ensures ready { IfOk result (IsReady schema.now plan.now.root) }
+    ensures same { (W.state world.new).told ≡ (W.state world.old).told }
 {
-    let prepared = ready(alloc, schema, plan, a, b)?;
-    is_prepared(&prepared);
-    let rows = answered_rows(alloc, schema, asked.query, asked.ticket, prepared, crew)?;
-    Ok(rows)
-}
-
-// What a query that is made ready keeps.
-fn is_prepared(prepared: &Prepared)
-    ensures { IsPrepared prepared.now }
-{
-    let _units = prepared.units();
+    let a = tables_at(alloc, Site::A, schema, plan, world)?;
+    let b = tables_at(alloc, Site::B, schema, plan, world)?;
+    ready(alloc, schema, plan, a, b)
 }
 
 // The answer of a query that is made ready.
@@ -112,13 +97,10 @@ fn answered_rows<R: Threads + Sync, D: Deal>(
     requires root { prepared.a.root ≡ root schema.now query.now }
     requires valid_a { AreValid schema.now prepared.a.tables }
     requires valid_b { AreValid schema.now prepared.b.tables }
+    requires there { ticket < 2 ^ 40 }
     ensures { IfOk result (λ rows.
         rows ≡ answer schema.now (union prepared.a.tables prepared.b.tables) query.now) }
 {
-    // A file has at most 16 queries.
-    if ticket >= 1 << 40 {
-        return Err(Memory);
-    }
     valid_unions_fit(schema);
     plan_means_answer(schema, query);
     let answered = answer(
@@ -146,11 +128,14 @@ fn ready(
     requires few_a { All (λ (rows : RowsModel). length rows < 2 ^ 32 - 1) a }
     requires few_b { All (λ (rows : RowsModel). length rows < 2 ^ 32 - 1) b }
     ensures { MatchResult result
-        (λ prepared. IsOf schema.now plan.now.root a b prepared)
+        (λ prepared. AreReady schema.now plan.now.root a b prepared)
         (NotReady schema.now plan.now.root a b) }
 {
     match prepare(alloc, schema, plan, a, b) {
-        Ok(prepared) => Ok(prepared),
+        Ok(prepared) => {
+            is_prepared(&prepared);
+            Ok(prepared)
+        }
         Err(PrepareErr::Rows { site, table, cause }) => {
             Err(wrong_rows(alloc, schema, site, table, cause))
         }
@@ -159,6 +144,13 @@ fn ready(
         }
         Err(PrepareErr::Memory) => Err(Stop::Memory),
     }
+}
+
+// What a query that is made ready keeps.
+fn is_prepared(prepared: &Prepared)
+    ensures { IsPrepared prepared.now }
+{
+    let _units = prepared.units();
 }
 
 // The refusal of a site's rows of a table.

@@ -3,13 +3,14 @@ ghost use Rattle.std.specs.Prelude.{◌≡◌, ◌≤◌, ◌<◌, Some, length,
 ghost use Rattle.pdn_base.specs.Bounds.{IsShort};
 ghost use Rattle.pdn_base.specs.declared.status.Who.TheVariants.{Sink as TheSink};
 ghost use Rattle.pdn_schema.specs.Models.{table_of};
-ghost use Rattle.pdn_query.specs.Questions.{File, Kept, Batch as BatchAsked, OnlyAt, told_by};
+ghost use Rattle.pdn_query.specs.Questions.{File, Kept, Batch as BatchAsked, Ticket, OnlyAt, OnlyDesk, told_by};
 ghost use Rattle.pdn_query.specs.Script.{Script, Say};
 ghost use Rattle.pdn_query.specs.Walk.{Came, Closes, PutFailed, Wrote};
-ghost use Rattle.pdn_query.specs.World.{WorldModel, RoseIn, NotFallen, Replied, NotRead, NotKept, NotAdded, answer_of, Put, Cut};
+ghost use Rattle.pdn_query.specs.World.{WorldModel, RoseIn, NotFallen, Replied, NotRead, NotKept, NotAdded, NotGiven, answer_of, Put, Cut};
 ghost use Rattle.pdn_script.specs.Stops.{end_of, stop_of};
 
 use pdn_base::{FileErr, Files, Rows, Sink, SinkErr, Site, Status};
+use pdn_desk_keeper::DeskKeeper;
 use pdn_keeper::{AddErr, Added, KeepErr, SiteKeeper};
 use pdn_schema::Schema;
 use pdn_script::{Stop, conclude};
@@ -65,6 +66,13 @@ pub trait Outside {
             batch.entry.number batch.entry.rows.now) }
         ensures only { OnlyAt site (state self.old).told (state self.new).told };
 
+    /// The desk's next ticket, which is then taken; 2^40 where none is left.
+    fn ticket(&mut self, alloc: Global) -> Result<u64, KeepErr>
+        ensures given { MatchResult result
+            (λ ticket. Replied (state self.old) (state self.new) Ticket ticket)
+            (NotGiven (state self.old) (state self.new)) }
+        ensures only { OnlyDesk (state self.old).told (state self.new).told };
+
     /// Puts these bytes on the sink.
     fn put(&mut self, bytes: &[u8]) -> Result<(), SinkErr>
         ensures put { MatchResult result
@@ -80,23 +88,25 @@ pub trait Outside {
         ensures later { NotFallen (state self.old).counts (state self.new).counts };
 }
 
-/// Files, both sites' keepers and a sink.
+/// Files, both sites' keepers, the desk's keeper and a sink.
 #[derive(Drop)]
-pub struct World<F, K, S> {
+pub struct World<F, K, D, S> {
     pub files: F,
     pub site_a: K,
     pub site_b: K,
+    pub desk: D,
     pub out: S,
 }
 
-impl<F: Files, K: SiteKeeper, S: Sink> Outside for World<F, K, S> {
+impl<F: Files, K: SiteKeeper, D: DeskKeeper, S: Sink> Outside for World<F, K, D, S> {
     ghost state = { λ w. record {
-      told = told_by (F.held w.files) (K.batches w.site_a) (K.batches w.site_b);
+      told = told_by (F.held w.files) (K.batches w.site_a) (K.batches w.site_b) (D.held w.desk);
       written = S.written w.out;
       counts = record {
         files = F.faults w.files;
         a = K.faults w.site_a;
         b = K.faults w.site_b;
+        desk = D.faults w.desk;
         sink = S.faults w.out;
       };
     } };
@@ -130,6 +140,10 @@ impl<F: Files, K: SiteKeeper, S: Sink> Outside for World<F, K, S> {
             Site::A => self.site_a.add_batch(alloc, schema, table, number, rows),
             Site::B => self.site_b.add_batch(alloc, schema, table, number, rows),
         }
+    }
+
+    fn ticket(&mut self, alloc: Global) -> Result<u64, KeepErr> {
+        self.desk.ticket(alloc)
     }
 
     fn put(&mut self, bytes: &[u8]) -> Result<(), SinkErr> {

@@ -2,7 +2,7 @@ use Rattle.std.proofs.Common.{map, Some}
 use Rattle.std.specs.String.{string_bytes}
 use Rattle.pdn_commands.specs.Commands.{Run, Check, Load}
 use Rattle.pdn_commands.proofs.Tasks.{asked}
-use Rattle.pdn_commands.proofs.Tasks.{kept_a, kept_b}
+use Rattle.pdn_commands.proofs.Tasks.{kept_a, kept_b, run_takes, load_takes_none}
 use Rattle.pdn_commands.proofs.top.follow.Goals as goal
 
 pub returns-in-Some-Run-clause-goes : goal.returns-in-Some-Run-clause-goes
@@ -20,3 +20,9 @@ returns-in-Some-Load-clause-kept_a g c = kept_a c.in-Some-Load.table.now c.in-So
 
 pub returns-in-Some-Load-clause-kept_b : goal.returns-in-Some-Load-clause-kept_b
 returns-in-Some-Load-clause-kept_b g c = kept_b c.in-Some-Load.table.now c.in-Some-Load.batch c.in-Some-Load.file.now _ _ _ c.in-Some-Load.site (rw (c.in-Some-Load.field-0-is) at c.in-Some-Load.ensures) c.load.ensures.only
+
+pub returns-in-Some-Run-clause-desk : goal.returns-in-Some-Run-clause-desk
+returns-in-Some-Run-clause-desk g c = run_takes c.in-Some-Run.file.now _ _ (rw (c.in-Some-Run.field-0-is) at c.in-Some-Run.ensures)
+
+pub returns-in-Some-Load-clause-desk : goal.returns-in-Some-Load-clause-desk
+returns-in-Some-Load-clause-desk g c = λ off. load_takes_none c.in-Some-Load.site _ _ c.load.ensures.only

@@ -1,0 +1,17 @@
+use Rattle.std.proofs.Common.{map}
+use Rattle.std.specs.String.{string_bytes}
+use Rattle.pdn_commands.specs.Commands.{script}
+use Rattle.pdn_commands.proofs.Causes.{spent_end}
+use Rattle.pdn_query.proofs.Walks.{answered, not_fallen, only_both, only_same}
+use Rattle.pdn_commands.proofs.top.perform.Goals as goal
+
+pub returns-clause-answers : goal.returns-clause-answers
+returns-clause-answers g c = answered _ _ _ (script (map string_bytes c.args.words.now)) _ _ c.follow-came.ensures.goes c.conclude.ensures.told c.conclude.ensures.later c.conclude.ensures.closes
+
+pub returns-clause-spared : goal.returns-clause-spared
+returns-clause-spared g c =
+    let short = spent_end (g.W.Outside.state c.args.world.now) (g.W.Outside.state c.follow-came.new.world) (g.W.Outside.state c.conclude.new.self) (map string_bytes c.args.words.now) in
+    λ e. only_both _ _ _ (c.follow-came.ensures.spared (short _ _ c.follow-came.ensures.goes c.conclude.ensures.closes e)) (only_same _ _ c.conclude.ensures.told)
+
+pub returns-clause-later : goal.returns-clause-later
+returns-clause-later g c = not_fallen _ _ _ c.follow-came.ensures.goes.later c.conclude.ensures.later
