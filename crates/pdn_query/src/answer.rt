@@ -53,8 +53,8 @@ pub fn query_answer<R: Threads + Sync, W: Outside, D: Deal>(
     requires written { IsWritten asked.query.now }
     ensures came { (next : List ℕ → Script) →
         Came (W.state world.old) (W.state world.new)
-            (query_answer schema.now asked.entry.number asked.entry.query.now next)
-            (λ text. next text.items) result }
+        (query_answer schema.now asked.entry.number asked.entry.query.now next)
+        (λ text. next text.items) result }
     ensures only { OnlyDesk (W.state world.old).told (W.state world.new).told }
 {
     let plan = bound(alloc, schema, asked.query)?;

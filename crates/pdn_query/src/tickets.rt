@@ -21,7 +21,7 @@ const TICKETS: u64 = 1 << 40;
 pub fn next_ticket<W: Outside>(alloc: Global, world: &mut W) -> Result<u64, Stop>
     ensures came { (next : ℕ → Script) →
         Came (W.state world.old) (W.state world.new) (ticketing next)
-            (λ ticket. next ticket) result }
+        (λ ticket. next ticket) result }
     ensures there { IfOk result (λ ticket. ticket < 2 ^ 40) }
     ensures only { OnlyDesk (W.state world.old).told (W.state world.new).told }
 {
