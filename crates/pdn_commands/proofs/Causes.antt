@@ -138,6 +138,9 @@ is_given : (desk : Option DeskHeld) (count ticket : ℕ) → ticket < 2 ^ 40 →
 is_given None count ticket few next = (few, tt)
 is_given (Some held) count ticket few next = (few, next.1)
 
+none_before : (count : ℕ) → count ≡ 0 + count
+none_before count = omega arith
+
 plus_none : (before : ℕ) → before + 0 ≡ before
 plus_none before = omega arith
 
@@ -394,7 +397,7 @@ module _ (told : Told) (words : List (List ℕ)) where
   begun_text : (s : SchemaModel) (queries : List Query) → ((text : List ℕ) → AreAnswers told s 1 0 queries text → IsDone told words text (with_desk told (with_given (length queries) told.desk))) →
       Texts told (IsDone told words) (queries_script s 1 queries)
   begun_text s queries done = subst (λ (desk : Option DeskHeld). Texts (with_desk told desk) (IsDone told words) (queries_script s 1 queries)) (none_given told.desk)
-      (queries_text told (IsDone told words) s 1 0 queries done)
+      (queries_text told (IsDone told words) s 1 0 queries (λ text answers. subst (λ (count : ℕ). IsDone told words text (with_desk told (with_given count told.desk))) (none_before (length queries)) (done text answers)))
 
   task_text : (task : Option Task) → task_of words ≡ task → Texts told (IsDone told words) (task_script task)
   task_text None e = tt

@@ -17,10 +17,10 @@ asked {a} {b} {end} words task is w = subst (λ (t : Option Task). Along a b (ta
 module _ (table : List ℕ) (number : ℕ) (file : List ℕ) (task : Option Task) (old new : Told) where
   pub kept_a : (site : Site) → Some (Load site table number file) ≡ task → OnlyAt site old new → loads A task ≡ false → new.a ≡ old.a
   kept_a A e only off = let on : loads A (Some (Load A table number file)) ≡ false = subst (λ (t : Option Task). loads A t ≡ false) (sym e) off in cc
-  kept_a B e only off = only.1.0
+  kept_a B e only off = only.1
 
   pub kept_b : (site : Site) → Some (Load site table number file) ≡ task → OnlyAt site old new → loads B task ≡ false → new.b ≡ old.b
-  kept_b A e only off = only.1.0
+  kept_b A e only off = only.1
   kept_b B e only off = let on : loads B (Some (Load B table number file)) ≡ false = subst (λ (t : Option Task). loads B t ≡ false) (sym e) off in cc
 
 -- ---- whether tickets may be taken
@@ -29,5 +29,5 @@ pub run_takes : {X : Type 0} (file : List ℕ) (workers : ℕ) (task : Option Ta
 run_takes file workers task e off = let on : runs (Some (Run file workers)) ≡ false = subst (λ (t : Option Task). runs t ≡ false) (sym e) off in cc
 
 pub load_takes_none : (site : Site) (old new : Told) → OnlyAt site old new → new.desk ≡ old.desk
-load_takes_none A old new only = only.1.1
-load_takes_none B old new only = only.1.1
+load_takes_none A old new only = only.2
+load_takes_none B old new only = only.2

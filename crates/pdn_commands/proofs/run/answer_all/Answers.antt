@@ -1,16 +1,16 @@
-use Rattle.std.proofs.Common.{refl}
+use Rattle.std.proofs.Common.{refl, ◌∙◌}
 use Rattle.std.proofs.lemmas.Result.{err_from_is_err_and}
 use Rattle.pdn_commands.proofs.Runs.{query_on, query_stopped, queries_done}
-use Rattle.pdn_query.proofs.Walks.{begun, only_same, only_both}
+use Rattle.pdn_query.proofs.Walks.{begun}
 use Rattle.pdn_commands.proofs.run.answer_all.Goals as goal
 
 pub loop-i-init : goal.loop-i-init
-loop-i-init g c = record { leads = begun _ _; only = only_same _ _ refl }
+loop-i-init g c = record { leads = begun _ _; only = (refl, refl, refl) }
 
 pub loop-i-preserved : goal.loop-i-preserved
 loop-i-preserved g c = record {
   leads = query_on c.args.schema.now c.args.queries.now c.loop-i.i c.loop-i.invariant.leads c.index-queries-i.result c.loop-i-test.true c.index-queries-i.is c.in_ok-answer.ensures.came;
-  only = only_both _ _ _ c.loop-i.invariant.only c.in_ok-answer.ensures.only;
+  only = let f = c.loop-i.invariant.only in let s = c.in_ok-answer.ensures.only in (s.0 ∙ f.0, s.1 ∙ f.1, s.2 ∙ f.2);
 }
 
 pub returns-in_err-answer-clause-goes : goal.returns-in_err-answer-clause-goes
@@ -22,4 +22,4 @@ pub returns-clause-goes : goal.returns-clause-goes
 returns-clause-goes g c = queries_done c.args.schema.now c.args.queries.now c.loop-i.i c.loop-i.invariant.leads c.loop-i-test.false
 
 pub returns-in_err-answer-clause-only : goal.returns-in_err-answer-clause-only
-returns-in_err-answer-clause-only g c = only_both _ _ _ c.loop-i.invariant.only c.in_err-answer.ensures.only
+returns-in_err-answer-clause-only g c = let f = c.loop-i.invariant.only in let s = c.in_err-answer.ensures.only in (s.0 ∙ f.0, s.1 ∙ f.1, s.2 ∙ f.2)

@@ -11,7 +11,8 @@ returns-clause-answers g c = answered _ _ _ (script (map string_bytes c.args.wor
 pub returns-clause-spared : goal.returns-clause-spared
 returns-clause-spared g c =
     let short = spent_end (g.W.Outside.state c.args.world.now) (g.W.Outside.state c.follow-came.new.world) (g.W.Outside.state c.conclude.new.self) (map string_bytes c.args.words.now) in
-    λ e. only_both _ _ _ (c.follow-came.ensures.spared (short _ _ c.follow-came.ensures.goes c.conclude.ensures.closes e)) (only_same _ _ c.conclude.ensures.told)
+    λ e. only_both (g.W.Outside.state c.args.world.now).told (g.W.Outside.state c.follow-came.new.world).told (g.W.Outside.state c.conclude.new.self).told
+    (c.follow-came.ensures.spared (short _ _ c.follow-came.ensures.goes c.conclude.ensures.closes e)) (only_same (g.W.Outside.state c.follow-came.new.world).told (g.W.Outside.state c.conclude.new.self).told c.conclude.ensures.told)
 
 pub returns-clause-later : goal.returns-clause-later
 returns-clause-later g c = not_fallen _ _ _ c.follow-came.ensures.goes.later c.conclude.ensures.later
