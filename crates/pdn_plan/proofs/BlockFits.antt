@@ -1,5 +1,5 @@
 -- What binding lets pass of a block makes a sound tree, which gives the kinds of the block's items.
-use Rattle.std.proofs.Common.{◌≡◌, ℕ, ◌+◌, ◌<◌, Bool, true, false, ◌||◌, nat_lt, nat_le, cond, List, [], ◌∷◌, ◌++◌, map, length, sym, refl, ap, ap₂, ◌∙◌, subst, Option, None, arith, length-append, append-nil, ltb-false, le-leb, eqb-true, ◌==◌}
+use Rattle.std.proofs.Common.{◌≡◌, ℕ, ◌+◌, ◌<◌, Bool, true, false, ◌||◌, nat_lt, nat_le, List, [], ◌∷◌, ◌++◌, map, length, sym, refl, ap, ap₂, ◌∙◌, subst, Option, None, arith, length-append, append-nil, ltb-false, le-leb}
 use Rattle.std.specs.List.{AllByRecursion, list_any}
 use Rattle.std.proofs.lemmas.List.{map-append, length-map}
 use Rattle.pdn_base.specs.declared.marks.Kind.{Kind}
@@ -14,7 +14,7 @@ use Rattle.pdn_sql.specs.declared.query.Item.{Item}
 use Rattle.pdn_sql.specs.declared.query.Block.{Block}
 use Rattle.pdn_tree.specs.declared.node.Node.{Node}
 use Rattle.pdn_tree.specs.Columns.{has, Has, Below, place_in}
-use Rattle.pdn_plan.specs.Names.{first_of, refuse_if, place, scope_kinds}
+use Rattle.pdn_plan.specs.Names.{place, scope_kinds}
 use Rattle.pdn_plan.specs.Steps.{firsts, is_number, counts, key_at, window_key, number_or, window_step, count_or, group_or, step_of, what_columns, items_columns, what_at, items_at, output_name}
 use Rattle.pdn_plan.specs.declared.steps.Step.{Step}
 use Rattle.pdn_plan.specs.declared.steps.Step.TheVariants.{Grouped, Counted, Numbered, Unchanged}

@@ -2,18 +2,17 @@
 use Rattle.std.proofs.Common.{◌≡◌, ℕ, ◌+◌, ◌<◌, Bool, true, false, not, ◌&&◌, ◌||◌, ◌==◌, cond, List, [], ◌∷◌, ◌++◌, map, filter, length, count_by, sym, refl, ap, ap₂, ◌∙◌, subst, Option, Some, None, arith, Ordering}
 use Rattle.std.proofs.Math.Path.{fun_ext}
 use Rattle.std.proofs.Math.Seq.{get_or-append_seam}
-use Rattle.std.specs.List.{AllByRecursion, list_any, flat_map, range_with_len}
+use Rattle.std.specs.List.{AllByRecursion, list_any, range_with_len}
 use Rattle.std.specs.Ordering.{is_lt, ordering_then}
-use Rattle.std.proofs.lemmas.Bool.{true≢false}
 use Rattle.std.proofs.lemmas.List.{length-map, map-append}
 use Rattle.std.proofs.lemmas.List.Folds.{list_any-append}
 use Rattle.std.proofs.lemmas.List.Sums.{sum_by-cons}
 use Rattle.pdn_base.specs.declared.value.Value.{Value}
 use Rattle.pdn_base.specs.declared.value.Value.TheVariants as value
 use Rattle.pdn_base.specs.declared.order.Key.{Key}
-use Rattle.pdn_base.specs.Values.{value_cmp, cells_cmp, same_row, cell, cut, directed, keys_cmp, row_cmp}
+use Rattle.pdn_base.specs.Values.{value_cmp, cells_cmp, same_row, cell, cut, directed, keys_cmp}
 use Rattle.pdn_base.specs.Bags.{times, distinct}
-use Rattle.pdn_base.specs.Operators.{project_rows, group_rows, counted, allows, count_rows, number_rows, number_from, before_in}
+use Rattle.pdn_base.specs.Operators.{project_rows, group_rows, counted, allows, number_from, before_in}
 use Rattle.pdn_sql.specs.declared.query.Col.{Col}
 use Rattle.pdn_sql.specs.declared.query.OrderCol.{OrderCol}
 use Rattle.pdn_sql.specs.declared.query.What.{What}
@@ -28,7 +27,7 @@ use Rattle.pdn_plan.specs.Steps.{firsts, is_count, counts, key_at, window_key, n
 use Rattle.pdn_plan.specs.declared.steps.Step.{Step}
 use Rattle.pdn_plan.specs.declared.steps.Step.TheVariants.{Numbered, Unchanged}
 use Rattle.pdn_plan.specs.Binding.{is_loose, is_some_of}
-use Rattle.pdn_plan.specs.Answer.{Entry, agree, grouped, Window, window_cmp, stands_before, place_of, numbered, cols_in, named_places, shows_count, window_or, window_in, windowed, ungrouped, entries, shown, shown_rows}
+use Rattle.pdn_plan.specs.Answer.{Entry, agree, grouped, Window, window_cmp, stands_before, numbered, cols_in, named_places, shows_count, window_or, window_in, windowed, ungrouped, entries, shown, shown_rows}
 use Rattle.pdn_plan.proofs.Pushing.{filter-map, filter-agree, map-agree, map-map}
 use Rattle.pdn_plan.proofs.KeepLaws.{has_needed}
 use Rattle.pdn_plan.proofs.KindLaws.{kept-below}

@@ -114,10 +114,10 @@ once-wide w false rows h = h
 -- what the steps before the items are, by the names of the block
 pub keys-known : (P : ℕ → Type 0) (ks : List ℕ) (having : Option ℕ) (next : Step) (keys : List ℕ) (least : Option ℕ) → ((js : List ℕ) (l : Option ℕ) → next ≡ Grouped js l → ⊥) → AllByRecursion P ks → group_or ks having next ≡ Grouped keys least → AllByRecursion P keys
 keys-known P [] having next keys least bar h e = absurd (bar keys least e)
-keys-known P (k ∷ ks) having next keys least bar h e = subst (λ (js : List ℕ). AllByRecursion P js) (keys-same e) (all-firsts P [] (k ∷ ks) h)
+keys-known P (k ∷ ks) having next keys least bar h e = subst (λ (js : List ℕ). AllByRecursion P js) (keys-same _ e) (all-firsts P [] (k ∷ ks) h)
   where
-    keys-same : Grouped (firsts (λ c. c) [] (k ∷ ks)) having ≡ Grouped keys least → firsts (λ c. c) [] (k ∷ ks) ≡ keys
-    keys-same e = cc
+    keys-same : (bound : Option ℕ) → Grouped (firsts (λ c. c) [] (k ∷ ks)) bound ≡ Grouped keys least → firsts (λ c. c) [] (k ∷ ks) ≡ keys
+    keys-same bound e = cc
 
 window-numbers : (place : Col → ℕ) (items : List Item) (js : List ℕ) (l : Option ℕ) → window_step place items ≡ Grouped js l → ⊥
 window-numbers place [] js l e = cc

@@ -1,12 +1,11 @@
 -- The rows of a table in the union of valid tables are as wide as the schema says.
-use Rattle.std.proofs.Common.{◌≡◌, ℕ, zero, suc, ◌+◌, ◌<◌, List, [], ◌∷◌, ◌++◌, length, get_or, refl, sym, ap, ◌∙◌, subst, arith}
-use Rattle.std.specs.List.{All, AllByRecursion}
+use Rattle.std.proofs.Common.{◌≡◌, ℕ, suc, ◌+◌, ◌<◌, List, [], ◌∷◌, length, get_or, sym, ap, ◌∙◌, subst, arith}
+use Rattle.std.specs.List.{AllByRecursion}
 use Rattle.std.proofs.lemmas.List.{length-map}
 use Rattle.std.proofs.lemmas.List.Elements.{recursion_from_All}
-use Rattle.pdn_base.specs.declared.value.Value.{Value}
 use Rattle.pdn_schema.specs.declared.schema.Column.{Column}
 use Rattle.pdn_schema.specs.Models.{TableModel, SchemaModel, no_table, table_of}
-use Rattle.pdn_schema.specs.Rows.{HasKinds, IsValid, AreValid, union, kinds_of, column_kinds}
+use Rattle.pdn_schema.specs.Rows.{HasKinds, IsValid, AreValid, union}
 use Rattle.pdn_tree.specs.Columns.{Wide}
 use Rattle.pdn_tree.specs.Meaning.{Rows}
 use Rattle.pdn_plan.specs.Answer.{TablesFit}

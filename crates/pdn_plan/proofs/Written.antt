@@ -1,5 +1,5 @@
 -- Queries that a text says begin each block with a source that has no ON.
-use Rattle.std.proofs.Common.{◌≡◌, ℕ, List, [], ◌∷◌, ◌++◌, Option, Some, None, refl, sym, ap, subst}
+use Rattle.std.proofs.Common.{◌≡◌, ℕ, List, [], ◌∷◌, Option, Some, None, sym, ap, subst}
 use Rattle.std.specs.List.{AllByRecursion}
 use Rattle.pdn_sql.specs.declared.token.Placed.{Placed}
 use Rattle.pdn_sql.specs.declared.query.Source.{Source}
@@ -9,7 +9,7 @@ use Rattle.pdn_sql.specs.declared.query.OrderName.{OrderName}
 use Rattle.pdn_sql.specs.declared.query.Block.{Block}
 use Rattle.pdn_sql.specs.declared.query.Named.{Named}
 use Rattle.pdn_sql.specs.declared.query.Query.{Query}
-use Rattle.pdn_sql.specs.Part.{Part, both, many, after, before, says_all}
+use Rattle.pdn_sql.specs.Part.{Part, both, after, before, says_all}
 use Rattle.pdn_sql.specs.declared.token.Keyword.TheVariants as words
 use Rattle.pdn_sql.specs.declared.token.Symbol.TheVariants as marks
 use Rattle.pdn_sql.specs.Grammar.{word_part, mark_part, parens, distinct, items, source, sources, filter, group, order, limit, block, named, next_named, nameds, withs, query, file, row}

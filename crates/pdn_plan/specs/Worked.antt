@@ -1,5 +1,5 @@
 -- Queries over small tables with the rows that they give, worked out by hand from SQL's rules.
-use Rattle.std.specs.Prelude.{◌≡◌, codes, ℕ, Bool, true, false, List, [], ◌∷◌, map, Option, Some, None, get_or}
+use Rattle.std.specs.Prelude.{◌≡◌, codes, ℕ, Bool, true, false, List, [], ◌∷◌, map, Some, None, get_or}
 use Rattle.pdn_base.specs.declared.value.Value.TheVariants as value
 use Rattle.pdn_base.specs.declared.marks.Kind.TheVariants as kind
 use Rattle.pdn_base.specs.declared.marks.Label.TheVariants as label
@@ -9,7 +9,6 @@ use Rattle.pdn_schema.specs.declared.schema.Column.{Column}
 use Rattle.pdn_schema.specs.Models.{TableModel, SchemaModel}
 use Rattle.pdn_sql.specs.declared.query.Name.{Name}
 use Rattle.pdn_sql.specs.declared.query.Col.{Col}
-use Rattle.pdn_sql.specs.declared.query.OrderCol.{OrderCol}
 use Rattle.pdn_sql.specs.declared.query.OrderName.{OrderName}
 use Rattle.pdn_sql.specs.declared.query.What.{What}
 use Rattle.pdn_sql.specs.declared.query.What.TheVariants as what

@@ -9,6 +9,7 @@ ghost use Rattle.pdn_tree.specs.Meaning.{Rows, mean};
 ghost use Rattle.pdn_plan.specs.Planning.{root};
 ghost use Rattle.pdn_plan.specs.Binding.{refusal};
 ghost use Rattle.pdn_plan.specs.Answer.{TablesFit, IsWritten, answer};
+ghost use Rattle.pdn_plan.specs.Worked.{AnswersWorked};
 ghost use Rattle.pdn_tree.specs.Shapes.{fits};
 
 use pdn_schema::Schema;
@@ -37,3 +38,8 @@ pub fn plan_fits_schema(schema: &Schema, query: &Query)
     // what a schema keeps is known once it is looked at
     let _floor = schema.floor;
 }
+
+/// The answer as written gives six queries over small tables the rows that were worked out by hand.
+pub fn answers_worked()
+    ensures { AnswersWorked }
+{}

@@ -15,6 +15,8 @@ mod steps;
 mod tree;
 
 pub use binding::bind;
-pub use laws::{plan_fits_schema, plan_means_answer, texts_are_written, valid_unions_fit};
+pub use laws::{
+    answers_worked, plan_fits_schema, plan_means_answer, texts_are_written, valid_unions_fit,
+};
 pub use pdn_tree::{Node, OutColumn, Plan, labels_of};
 pub use plan_err::PlanErr;

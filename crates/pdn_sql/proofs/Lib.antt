@@ -10,3 +10,6 @@ pub mod Reprints
 pub mod Nested
 pub mod Quiet
 pub mod RoundTrip
+pub mod Numbers
+pub mod Extents
+pub mod LimitLaws

@@ -39,7 +39,7 @@ name_text : (at : ℕ) (t : Token) (x : Name) → pick_name at t ≡ Some x → 
 name_text at (tokens.Name text) x e = (text, refl)
 name_text at t x e = absurd cc
 
-name_bare : (x : Name) (ts : List Placed) → name.says x ts → (text : List ℕ) × (bare ts ≡ tokens.Name text ∷ [])
+pub name_bare : (x : Name) (ts : List Placed) → name.says x ts → (text : List ℕ) × (bare ts ≡ tokens.Name text ∷ [])
 unfolding name
 name_bare x ts (p, picked, is) =
     let t = name_text p.at p.token x picked in
@@ -103,7 +103,7 @@ some_blocks (suc b) e = omega arith
 blocks_some : (b : ℕ) → 1 ≤ b → (true && 0 == 0 && b == 0 && true) ≡ false
 blocks_some b h = grind (arith, nat_tests)
 
-with_rest : (ts f k : List Placed) (rest : List Token) → ts ≡ f ++ k → bare ts ++ rest ≡ bare f ++ (bare k ++ rest)
+pub with_rest : (ts f k : List Placed) (rest : List Token) → ts ≡ f ++ k → bare ts ++ rest ≡ bare f ++ (bare k ++ rest)
 with_rest ts f k rest is = ap (λ (t : List Token). t ++ rest) (ap bare is ∙ bare_more f k) ∙ append_assoc (bare f) (bare k) rest
 
 -- where no name is that of a fifth block, there are not too many
@@ -179,7 +179,7 @@ withs_deep None ts n says = ap (λ (t : List Placed). deep n (bare t)) says
 withs_deep (Some xs) ts n (v, made, (f, k, is, word, says)) =
     ap (λ (t : List Placed). deep n (bare t)) is ∙ ap (deep n) (bare_more f k ∙ ap (λ (t : List Token). t ++ bare k) (word_bare words.With v.0 f word)) ∙ nameds_level v.1 k n says
 
-withs_level : (xs : List Named) (ts : List Placed) (n : ℕ) → withs.says xs ts → deep n (bare ts) ≡ Some n
+pub withs_level : (xs : List Named) (ts : List Placed) (n : ℕ) → withs.says xs ts → deep n (bare ts) ≡ Some n
 unfolding withs
 withs_level xs ts n (o, made, says) = withs_deep o ts n says
 
@@ -297,13 +297,13 @@ bare_placed : (ts : List Token) → bare (placed ts) ≡ ts
 bare_placed [] = refl
 bare_placed (t ∷ ts) = ap (λ (us : List Token). t ∷ us) (bare_placed ts)
 
-file_fair : (qs : List Query) (ts : List Placed) → says_all query qs ts → NoBad (bare ts)
+pub file_fair : (qs : List Query) (ts : List Placed) → says_all query qs ts → NoBad (bare ts)
 file_fair [] ts says = subst NoBad (ap bare (sym says)) tt
 file_fair (q ∷ qs) ts (f, k, is, says, more) =
     let r = query_reprints.again q f (placed (query_tokens q)) says (bare_placed (query_tokens q)) in
     subst NoBad (sym (ap bare is ∙ bare_more f k)) (fair_whole (bare f) (bare k) r.fair (file_fair qs k more))
 
-file_all : (qs : List Query) (ts : List Placed) → file.says qs ts → says_all query qs ts
+pub file_all : (qs : List Query) (ts : List Placed) → file.says qs ts → says_all query qs ts
 unfolding file
 file_all qs ts (l, made, says) = subst (λ (x : List Query). says_all query x ts) made says
 
@@ -318,7 +318,7 @@ same_length s [] (y ∷ ys) h = absurd h
 same_length s (x ∷ xs) [] h = absurd h
 
 -- the first tokens of a file that says queries are all of its tokens
-stands : (most : ℕ) (bytes : List ℕ) (queries : List Query) (q : Query) → Says most bytes queries → Member q queries → Stands q
+pub stands : (most : ℕ) (bytes : List ℕ) (queries : List Query) (q : Query) → Says most bytes queries → Member q queries → Stands q
 stands most bytes queries q says member =
     let all : says_all query queries (marked_tokens most bytes) = file_all queries (marked_tokens most bytes) says in
     let fair = file_fair queries (marked_tokens most bytes) all in

@@ -5,3 +5,4 @@ pub mod Marks
 pub mod Reading
 pub mod Printing
 pub mod Same
+pub mod Limits

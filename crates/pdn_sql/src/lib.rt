@@ -2,6 +2,7 @@
 #![tactic(auto)]
 
 mod lexer;
+mod limits;
 mod print;
 mod printed;
 mod query;
@@ -17,6 +18,7 @@ mod text;
 mod token;
 
 pub use lexer::{Class, Piece, tokens};
+pub use limits::texts_keep_limits;
 pub use print::print_query;
 pub use query::{
     Block, Col, Item, Name, Named, OrderCol, OrderName, Query, Source, SqlClause, SqlCmp,
