@@ -3,3 +3,4 @@ pub mod Answering
 pub mod Units
 pub mod Prepared
 pub mod Running
+pub mod Views

@@ -62,6 +62,25 @@ pub record IsOf (of_schema : SchemaModel) (of_root : Node) (tables_a tables_b : 
   pub a : p.a.tables ≡ tables_a
   pub b : p.b.tables ≡ tables_b
 
+-- the engine of a site over these tables
+abbrev pub engine_at : Site → SchemaModel → Node → List Rows → EngineModel
+engine_at site schema root tables = record { site = site; schema = schema; root = root; staged = segments_of schema root []; tables = tables }
+
+-- What is made ready of a schema, a plan's tree, both sites' tables and the units over them. Every prepared query is of this form.
+abbrev pub prepared_of : SchemaModel → Node → List Rows → List Rows → List UnitModel → PreparedModel
+prepared_of schema root a b units = record {
+  a = engine_at A schema root a;
+  b = engine_at B schema root b;
+  dirs = site_dirs a b (segments_of schema root []);
+  units = units;
+  columns = kinds schema root;
+  order = top_order root;
+  own = root_own schema a b root;
+}
+
+abbrev pub PreparedForm : Type 0
+PreparedForm = (p : PreparedModel) → IsPrepared p → p ≡ prepared_of p.a.schema p.a.root p.a.tables p.b.tables p.units
+
 -- Why a query is not prepared: the first table of A, or else of B, that isn't valid, or else the first limit that is passed.
 abbrev pub IsNotPrepared : SchemaModel → Node → List Rows → List Rows → PrepareErr → Type 0
 IsNotPrepared schema root a b (err.Rows A table cause) = IsFirstRefused schema a table cause
@@ -85,8 +104,8 @@ compile_refusal unit.Memory = err.Memory
 
 -- the engines of both sites over these tables
 pub record AreEngines (schema : SchemaModel) (root : Node) (rows_a rows_b : List Rows) (a b : EngineModel) : Type 0 where
-  pub made_a : a ≡ record { site = A; schema = schema; root = root; staged = segments_of schema root []; tables = rows_a }
-  pub made_b : b ≡ record { site = B; schema = schema; root = root; staged = segments_of schema root []; tables = rows_b }
+  pub made_a : a ≡ engine_at A schema root rows_a
+  pub made_b : b ≡ engine_at B schema root rows_b
   pub is_a : IsEngine a
   pub is_b : IsEngine b
 

@@ -1,0 +1,3 @@
+pub mod PlainWords
+pub mod TapeChange
+pub mod TwoWorlds
