@@ -1,0 +1,56 @@
+//! Rows as the bytes of a database.
+use crate::fault::Fault;
+use pdn_base::{Code, Kind, Row, Value};
+use pdn_schema::Column;
+use std::alloc::Global;
+
+/// The bytes of a row: each value's number in 8 bytes, most significant first, column after column.
+pub(crate) fn bytes_of(alloc: Global, row: &Row) -> Result<Vec<u8>, Fault> {
+    let mut bytes = Vec::new(alloc);
+    for value in row.values() {
+        bytes.extend_from_slice(&value.number().to_be_bytes())?;
+    }
+    Ok(bytes)
+}
+
+/// The row of these columns that bytes are.
+pub(crate) fn row_of(alloc: Global, columns: &[Column], bytes: &[u8]) -> Result<Row, Fault> {
+    let (numbers, rest) = bytes.as_chunks::<8>();
+    if numbers.len() != columns.len() || !rest.is_empty() {
+        return Err(Fault::Refused);
+    }
+    let mut values = Vec::new(alloc);
+    for (column, number) in columns.iter().zip(numbers) {
+        let Some(value) = value_of(column.kind, number) else {
+            return Err(Fault::Refused);
+        };
+        values.push(value)?;
+    }
+    Ok(Row { values })
+}
+
+// The value of a kind with this number.
+fn value_of(kind: Kind, number: &[u8; 8]) -> Option<Value> {
+    match kind {
+        Kind::Int => Some(Value::Int(u32::try_from(u64::from_be_bytes(*number)).ok()?)),
+        Kind::Code => Some(Value::Code(code_of(number)?)),
+    }
+}
+
+// The code with this number.
+fn code_of(number: &[u8; 8]) -> Option<Code> {
+    let code = Code::read(before_zero(number))?;
+    if code.number() == u64::from_be_bytes(*number) {
+        Some(code)
+    } else {
+        None
+    }
+}
+
+// The bytes in front of the first zero byte.
+fn before_zero(bytes: &[u8]) -> &[u8] {
+    match bytes.iter().position(|byte| *byte == 0) {
+        Some(end) => &bytes[..end],
+        None => bytes,
+    }
+}
