@@ -1,16 +1,30 @@
 //! Rows as the bytes of a database.
+ghost use Rattle.std.specs.Prelude.{◌≡◌, IfOk};
+ghost use Rattle.pdn_base.specs.Values.{number_of};
+ghost use Rattle.pdn_store.specs.Cells.{eight_bytes, row_bytes};
+
 use crate::fault::Fault;
 use pdn_base::{Code, Kind, Row, Value};
 use pdn_schema::Column;
 use std::alloc::Global;
 
 /// The bytes of a row: each value's number in 8 bytes, most significant first, column after column.
-pub(crate) fn bytes_of(alloc: Global, row: &Row) -> Result<Vec<u8>, Fault> {
+pub(crate) fn bytes_of(alloc: Global, row: &Row) -> Result<Vec<u8>, Fault>
+    ensures { IfOk result (λ bytes. bytes.items ≡ row_bytes row.now) }
+{
     let mut bytes = Vec::new(alloc);
-    for value in row.values() {
-        bytes.extend_from_slice(&value.number().to_be_bytes())?;
+    let values = row.values();
+    for value in values {
+        bytes.extend_from_slice(&cell_of(value))?;
     }
     Ok(bytes)
+}
+
+#[tactic(auto, unfolding(crate::specs::Cells::eight_bytes))]
+fn cell_of(value: &Value) -> [u8; 8]
+    ensures { result ≡ eight_bytes (number_of value.now) }
+{
+    value.number().to_be_bytes()
 }
 
 /// The row of these columns that bytes are.

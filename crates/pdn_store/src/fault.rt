@@ -48,6 +48,12 @@ impl From<Fault> for KeepErr {
 }
 
 impl From<Fault> for AddErr {
+    ghost use Rattle.std.specs.Prelude.{List};
+    ghost use Rattle.pdn_schema.specs.declared.schema.Column.{Column};
+    ghost use Rattle.pdn_keeper.specs.Batches.{NamesColumn};
+
+    ghost from_gives = { λ _ e. (columns : List Column) → NamesColumn columns e };
+
     fn from(fault: Fault) -> AddErr {
         match fault {
             Fault::Refused => AddErr::Failed,
