@@ -1,13 +1,13 @@
 #!/usr/bin/env bash
-# Runs a command of the program on the demo network: its words are this script's, else `run q.sql 1`, which answers the
-# queries of demo/q.sql over the rows of two hospitals, demo/a_diag.csv and demo/b_diag.csv, by the schema demo/net.schema. It
-# runs the proved program where the gate (.ci/run) has built it from the sources as they stand, else a quick build that is not
-# proved. The key of the tape is made from the system's random source where there is none.
+# Gives two hospitals their rows, demo/a_diag.csv and demo/b_diag.csv, each as batch 0 of the table diag, and answers the queries of
+# demo/q.sql, by the schema demo/net.schema. The hospitals keep their rows in demo/a.db and demo/b.db, the desk its tickets in
+# demo/desk.db. With words it runs the one command that they say. It runs the proved program where the gate (.ci/run) has built it from
+# the sources as they stand, else a quick build that is not proved. The key of the tape is made from the system's random source where
+# there is none.
 set -u
 demo=$(cd "$(dirname "$0")" && pwd)
 crates=$(cd "$demo/../crates" && pwd)
 program=$crates/pdn/out/pdn
-[ $# -gt 0 ] || set -- run q.sql 1
 
 # Whether the built program is newer than every source that it could be made from.
 is_current() {
@@ -20,12 +20,16 @@ if [ ! -f tape.key ]; then
 fi
 if is_current; then
     echo "the proved program:" >&2
-    exec "$program" "$@"
+    [ $# -eq 0 ] || exec "$program" "$@"
+    "$program" load a diag 0 a_diag.csv || exit
+    "$program" load b diag 0 b_diag.csv || exit
+    exec "$program" run q.sql 1
 fi
-echo "a quick build that is not proved (run .ci/run for the proved program):" >&2
+echo "a quick build that is not proved, over the stores in crates/pdn/data; what it writes is lost (run .ci/run for the proved program):" >&2
+[ $# -gt 0 ] || set -- run q.sql 1
 cd "$crates/pdn" || exit 1
-data=()
-for file in net.schema q.sql a_diag.csv b_diag.csv more.csv tape.key; do
+data=(--data "tape.key=$demo/tape.key" --data "a.db=data/a.db" --data "b.db=data/b.db")
+for file in net.schema q.sql a_diag.csv b_diag.csv more.csv; do
     data+=(--data "$file=$demo/$file")
 done
 exec rt try "${data[@]}" -- "$@"

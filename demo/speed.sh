@@ -8,9 +8,11 @@ program=$(cd "$demo/../crates" && pwd)/pdn/out/pdn
 folder=$(mktemp -d)
 trap 'rm -r "$folder"' EXIT
 
-# Runs the queries of the current folder, and tells what that took.
+# Gives both sites their rows, runs the queries of the current folder, and tells what that took.
 measure() {
     printf '%064d\n' 0 > tape.key
+    "$program" load a diag 0 a_diag.csv > /dev/null
+    "$program" load b diag 0 b_diag.csv > /dev/null
     python3 - "$program" "$1" <<'END'
 import resource, subprocess, sys, time
 start = time.time()

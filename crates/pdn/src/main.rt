@@ -1,12 +1,11 @@
 //! The program of a private data network of two sites.
 #![tactic(auto)]
 
-use pdn_base::{Files, RealFiles, Sink, Site, Status, StdSink};
+use pdn_base::{Files, RealFiles, Sink, Status, StdSink};
 use pdn_commands::{World, pdn};
 use pdn_dealer::ChaChaDeal;
-use pdn_desk_keeper::MemDesk;
-use pdn_keeper::MemSite;
-use pdn_startup::{ImportErr, dealer_of, import_tables, schema_there};
+use pdn_startup::dealer_of;
+use pdn_store::{SqliteDesk, SqliteSite};
 use std::alloc::Global;
 use std::io::ErrorKind;
 use std::process::ExitCode;
@@ -20,8 +19,8 @@ pdn load <a or b> <table> <batch> <csvfile>      gives a site a batch of a table
 pdn --help                                       prints this
 pdn --version                                    prints the version
 
-The schema is the file net.schema, the key of the tape the file tape.key. A site's rows are those of the files
-a_<table>.csv and b_<table>.csv that are there.
+The schema is the file net.schema, the key of the tape the file tape.key. The sites keep their rows in the files a.db
+and b.db, the desk its tickets in desk.db; each is made where there is none.
 ";
 
 const VERSION: &str = "pdn 0.1.0\n";
@@ -30,10 +29,9 @@ fn main(rt: HostRuntime) -> ExitCode {
     let alloc = rt.alloc();
     let mut world = World {
         files: RealFiles::new(&rt),
-        site_a: empty_site(alloc),
-        site_b: empty_site(alloc),
-        // Tickets begin anew with each call of the program.
-        desk: MemDesk::new(0, Vec::new(alloc)),
+        site_a: SqliteSite::open_at(rt, "a.db"),
+        site_b: SqliteSite::open_at(rt, "b.db"),
+        desk: SqliteDesk::open_at(rt, "desk.db"),
         out: StdSink::new(io::writer(&rt)),
     };
     let words = match words(&rt) {
@@ -52,42 +50,11 @@ fn main(rt: HostRuntime) -> ExitCode {
     }
     let Some(deal) = dealer_there(alloc, &mut world.files) else {
         // Where this put fails, there is nothing left to say.
-        let _put = put_fault(alloc, &mut world.out, "tape.key");
+        let _put = world.out.put(b"fault 1 tape.key\n");
         return ExitCode::FAILURE;
     };
-    match import_sites(alloc, &mut world) {
-        Ok(()) => {}
-        Err(ImportErr::Memory) => return ExitCode::from(Status::Memory.code()),
-        Err(ImportErr::File(name)) => {
-            let _put = put_fault(alloc, &mut world.out, name.as_str());
-            return ExitCode::FAILURE;
-        }
-    }
     let status = pdn(&rt, alloc, &words, &mut world, &deal);
     ExitCode::from(status.code())
-}
-
-// A site that keeps nothing yet.
-fn empty_site(alloc: Global) -> MemSite {
-    MemSite::new(Vec::new(alloc), Vec::new(alloc))
-}
-
-// Each site's rows, where the schema can be read; else the sites stay empty.
-fn import_sites<F: Files, S>(
-    alloc: Global,
-    world: &mut World<F, MemSite, MemDesk, S>,
-) -> Result<(), ImportErr> {
-    let Some(schema) = schema_there(alloc, &mut world.files) else {
-        return Ok(());
-    };
-    import_tables(alloc, Site::A, &schema, &mut world.files, &mut world.site_a)?;
-    import_tables(alloc, Site::B, &schema, &mut world.files, &mut world.site_b)
-}
-
-// The line that names a file that can't serve.
-fn put_fault(alloc: Global, out: &mut impl Sink, name: &str) -> Option<()> {
-    let line = format!(in alloc; "fault 1 {name}\n").ok()?;
-    out.put(line.as_bytes()).ok()
 }
 
 // The words after the program's name.

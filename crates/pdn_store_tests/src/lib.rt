@@ -1,0 +1,11 @@
+//! Tests of the stores over disks in memory: nothing but tests of public calls.
+#![tactic(auto)]
+
+#[cfg(test)]
+mod desk;
+#[cfg(test)]
+mod disks;
+#[cfg(test)]
+mod form;
+#[cfg(test)]
+mod site;
