@@ -1,5 +1,5 @@
 -- Unions that agree for a site have the same of all that is not a row.
-use Rattle.std.proofs.Common.{◌≡◌, true, List, [], ◌∷◌, refl, sym, ap, ap₂, subst}
+use Rattle.std.proofs.Common.{◌≡◌, List, [], ◌∷◌, refl, sym, ap, ap₂, subst}
 use Rattle.std.specs.List.{AllByRecursion}
 use Rattle.pdn_base.specs.declared.site.Site.{Site}
 use Rattle.pdn_base.specs.declared.site.Site.TheVariants.{A, B}
@@ -21,7 +21,7 @@ use Rattle.pdn_site.specs.RootMeaning.{segment_tops}
 use Rattle.pdn_site.specs.SiteRows.{Slice, root_words}
 use Rattle.pdn_site.specs.Engines.{EngineModel, secure_words}
 use Rattle.pdn_site.proofs.TopLaws.{tops_mean}
-use Rattle.pdn_agree.specs.Agreement.{Union, Agree, own_tables}
+use Rattle.pdn_agree.specs.Agreement.{Union, Agree}
 use Rattle.pdn_agree.specs.EqualShapes.{ShapesLaw}
 use Rattle.pdn_agree.specs.OwnWords.{OwnWordsLaw, engine_over}
 use Rattle.pdn_agree.proofs.SameValues.{directory_same}

@@ -1,21 +1,20 @@
 -- Columns row by row, a table's columns one by one, and tables in the schema's order.
-use Rattle.std.proofs.Common.{◌≡◌, ℕ, zero, suc, ◌+◌, ◌≤◌, ◌<◌, Bool, true, false, ◌&&◌, ◌||◌, List, [], ◌∷◌, length, map, get_or, drop, refl, sym, ap, ap₂, ◌∙◌, subst, arith, add-one, drop-cons, true≢false, inl, inr}
-use Rattle.std.specs.Prelude.{◌↔◌, slice_get}
-use Rattle.std.specs.List.{list_all}
+use Rattle.std.proofs.Common.{◌≡◌, ℕ, zero, suc, ◌+◌, ◌≤◌, ◌<◌, Bool, true, false, ◌&&◌, ◌||◌, List, [], ◌∷◌, length, map, get_or, drop, refl, sym, ap, ap₂, ◌∙◌, subst, arith, add-one, drop-cons, inl, inr}
+use Rattle.std.specs.Prelude.{slice_get}
 use Rattle.std.proofs.lemmas.Bool.{cases_lt, false≢true}
 use Rattle.pdn_base.specs.declared.value.Value.{Value}
 use Rattle.pdn_base.specs.Values.{cell}
 use Rattle.pdn_base.specs.Operators.{Rows}
 use Rattle.pdn_schema.specs.declared.schema.Column.{Column}
 use Rattle.pdn_schema.specs.Models.{TableModel, SchemaModel, no_table, table_of}
-use Rattle.pdn_tree.specs.Shapes.{is_public, columns_in, table_columns}
+use Rattle.pdn_tree.specs.Shapes.{is_public, columns_in}
 use Rattle.pdn_level.specs.declared.staged.Leaf.{Leaf}
 use Rattle.pdn_level.specs.Links.{slice_at}
 use Rattle.pdn_level.specs.Cutting.{same_value, IsPublicLeaf}
-use Rattle.pdn_site.specs.Directories.{traced_by, stands_in}
+use Rattle.pdn_site.specs.Directories.{stands_in}
 use Rattle.pdn_agree.specs.Agreement.{SameValues, SamePublic}
 use Rattle.pdn_agree.specs.Columns.{column_values, all_stand, IsPublicAt, SameIfPublic, IsFirstColumn}
-use Rattle.pdn_agree.specs.Spots.{IsBefore, IsFirstSpot}
+use Rattle.pdn_agree.specs.Spots.{IsFirstSpot}
 use Rattle.pdn_agree.proofs.SameValues.{same_itself, same_equal}
 
 -- ---- a column, row by row

@@ -5,7 +5,8 @@ use pdn_schema::read_schema;
 use std::alloc::Global;
 use std::test::Fail;
 
-const SCHEMA: &str = "version 1\nfloor 3\ntable visit rows 8\ncolumn pid int public per 4\ncolumn day int private\ntable lab rows 8\ncolumn test int private\ncolumn ward int public per 4\nend\n";
+const SCHEMA: &str =
+    "version 1\nfloor 3\ntable visit rows 8\ncolumn pid int public per 4\ncolumn day int private\ntable lab rows 8\ncolumn test int private\ncolumn ward int public per 4\nend\n";
 
 fn rows_of(alloc: Global, table: &[&[u32]]) -> Result<Rows, Memory> {
     let mut rows = Vec::new(alloc);
@@ -48,8 +49,14 @@ fn the_first_public_column_with_other_values_is_named(rt: HostRuntime) -> Result
     let more_values: &[&[u32]] = &[&[7, 1], &[8, 1]];
     let other_day: &[&[u32]] = &[&[7, 2]];
     let other_ward: &[&[u32]] = &[&[5, 4]];
-    let pid = Some(Spot { table: 0, column: 0 });
-    let ward = Some(Spot { table: 1, column: 1 });
+    let pid = Some(Spot {
+        table: 0,
+        column: 0,
+    });
+    let ward = Some(Spot {
+        table: 1,
+        column: 1,
+    });
     for (visits, labs, wanted) in [
         (visit, lab, None),
         (more_often, lab, None),
