@@ -1,8 +1,7 @@
 -- What is equal in two unions that agree for a site: directories, units with their circuits, the limit that is passed first, and the
 -- site's own words.
-use Rattle.std.specs.Prelude.{◌≡◌, ℕ, true, [], List}
+use Rattle.std.specs.Prelude.{◌≡◌, true, []}
 use Rattle.pdn_base.specs.declared.site.Site.{Site}
-use Rattle.pdn_base.specs.declared.value.Value.{Value}
 use Rattle.pdn_schema.specs.Models.{SchemaModel}
 use Rattle.pdn_tree.specs.declared.node.Node.{Node}
 use Rattle.pdn_tree.specs.Shapes.{shape}
