@@ -13,7 +13,7 @@ use Rattle.pdn_site.specs.Engines.{EngineModel, IsEngine}
 use Rattle.pdn_agree.specs.Agreement.{Union, Agree}
 use Rattle.pdn_agree.specs.EqualShapes.{SameShapes, ShapesLaw, units_over}
 use Rattle.pdn_broker.specs.Prepared.{PreparedModel, IsPrepared, engine_at, prepared_of}
-use Rattle.pdn_worlds.specs.TwoWorlds.{AreWorlds, union_of}
+use Rattle.pdn_worlds.specs.TwoWorlds.{AreWorlds, union_of, SecondWorldLaw}
 
 engine_form : (e : EngineModel) (site : Site) (schema : SchemaModel) (root : Node) → e.site ≡ site → e.schema ≡ schema → e.root ≡ root → IsEngine e → e ≡ engine_at site schema root e.tables
 engine_form e site schema root s c r is =
@@ -61,3 +61,33 @@ in_form law P site p q w h =
     subst (λ (m : PreparedModel). P m q) (sym first)
     (subst (λ (m : PreparedModel). P (prepared_of p.a.schema p.a.root p.a.tables p.b.tables p.units) m) (sym second)
     (h p.a.schema p.a.root p.a.tables p.b.tables q.a.tables q.b.tables p.units form))
+
+-- a second world
+pub second_world_law : ShapesLaw → SecondWorldLaw
+second_world_law law site p u is agree a b =
+    let shapes : SameShapes p.a.schema p.a.root (union_of p) u = law site p.a.schema p.a.root (union_of p) u is.sound is.numbers agree in
+    record {
+      first = is;
+      second = record {
+        site_a = refl;
+        site_b = refl;
+        schema = refl;
+        root = refl;
+        staged_a = record { tables = a; staged = refl; numbers = is.numbers };
+        staged_b = record { tables = b; staged = refl; numbers = is.numbers };
+        tables_a = a;
+        tables_b = b;
+        sound = is.sound;
+        numbers = is.numbers;
+        top = is.top;
+        dirs = refl;
+        units = shapes.units ∙ is.units;
+        stand = is.stand;
+        columns = refl;
+        order = refl;
+        own = refl;
+      };
+      schema = refl;
+      root = refl;
+      agree = agree;
+    }

@@ -58,13 +58,17 @@ module _ (site : Site) (schema : SchemaModel) (root : Node) (a b c d : List Rows
       ∙ word_of_first (tape ticket u) (section_length_at p u) place l
       ∙ ap (λ n. tape n u place) (sym e)
 
-  pub back : (at u place : ℕ) → shift_tape site q p ticket next at u place ≡ tape at u place
-  back at u place =
-      ⊎_elim
-      (λ e.
+  back_within : (at u place : ℕ) → is_of_query p ticket at u place ≡ true → shift_tape site q p ticket next at u place ≡ tape at u place
+  back_within at u place e =
       let parts = and_parts (at == ticket) (has_section p u && nat_lt place (section_length_at p u)) e in
       let more = and_parts (has_section p u) (nat_lt place (section_length_at p u)) parts.1 in
-      cond-true (is_of_query p ticket at u place) _ _ e
-      ∙ back_here at u place (eqb-true at ticket parts.0) more.0 (ltb-true place (section_length_at p u) more.1))
-      (λ e. cond-false (is_of_query p ticket at u place) _ _ e ∙ kept at u place e)
-      (cases_Bool (is_of_query p ticket at u place))
+      cond-true (is_of_query q ticket at u place) (slice_index (changed_words site q p next ticket u) place) (next at u place) (same_words at u place ∙ e)
+      ∙ back_here at u place (eqb-true at ticket parts.0) more.0 (ltb-true place (section_length_at p u) more.1)
+
+  back_outside : (at u place : ℕ) → is_of_query p ticket at u place ≡ false → shift_tape site q p ticket next at u place ≡ tape at u place
+  back_outside at u place e =
+      cond-false (is_of_query q ticket at u place) (slice_index (changed_words site q p next ticket u) place) (next at u place) (same_words at u place ∙ e)
+      ∙ kept at u place e
+
+  pub back : (at u place : ℕ) → shift_tape site q p ticket next at u place ≡ tape at u place
+  back at u place = ⊎_elim (λ e. back_within at u place e) (λ e. back_outside at u place e) (cases_Bool (is_of_query p ticket at u place))

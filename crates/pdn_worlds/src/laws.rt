@@ -1,6 +1,13 @@
 //! Laws of the definitions alone.
-ghost use Rattle.pdn_worlds.specs.TwoWorlds.{OthersLaw, OwnTicketLaw, TranscriptLaw, WayBackLaw};
+ghost use Rattle.pdn_worlds.specs.TwoWorlds.{OthersLaw, OwnTicketLaw, SecondWorldLaw, TranscriptLaw, WayBackLaw};
 ghost use Rattle.pdn_worlds.specs.WholeFile.{FileBackLaw, FileLaw};
+
+/// A query that is ready over one union of tables is ready over every union that agrees with it for
+/// the site, with the same units and circuits: no limit is passed in one world alone. So what the
+/// other laws say of two worlds holds for every such union.
+pub fn agreeing_unions_are_worlds()
+    ensures { SecondWorldLaw }
+{}
 
 /// A site learns nothing but what it may. Take one query, and two unions of tables that agree for a
 /// site: its own tables are the same in both, and each public column of the other site has the same
