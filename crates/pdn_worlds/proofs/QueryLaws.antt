@@ -173,7 +173,7 @@ module _ (law : ShapesLaw) (site : Site) (schema : SchemaModel) (root : Node) (a
   view_alike =
       let parts : (site_view site q next ticket).units ≡ (site_view site p tape ticket).units
       = map_where (λ u. u < length units) (site_part site q next ticket) (site_part site p tape ticket) (range_with_len 0 (length units))
-          (recursion_from_All (λ u. u < length units) (range_with_len 0 (length units)) (range_below (length units))) (λ u h. part_alike u (unit_at p u).kind h refl) in
+      (recursion_from_All (λ u. u < length units) (range_with_len 0 (length units)) (range_below (length units))) (λ u h. part_alike u (unit_at p u).kind h refl) in
       ap₂ (λ dirs (all : List Part). record (site_view site p tape ticket) { dirs = dirs; units = all }) shapes.dirs parts
 
 -- ---- the laws

@@ -5,6 +5,6 @@
 mod laws;
 
 pub use laws::{
-    agreeing_unions_are_worlds, change_is_undone, files_look_the_same, other_words_are_kept, sites_see_the_same,
-    views_read_their_own_ticket,
+    agreeing_unions_are_worlds, change_is_undone, files_look_the_same, other_words_are_kept,
+    sites_see_the_same, views_read_their_own_ticket,
 };
