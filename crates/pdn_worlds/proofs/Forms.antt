@@ -20,7 +20,7 @@ engine_form e site schema root s c r is =
     let staged : e.staged ≡ segments_of schema root [] = is.staged ∙ ap₂ (λ (m : SchemaModel) (n : Node). segments_of m n []) c r in
     λ i. record { site = s i; schema = c i; root = r i; staged = staged i; tables = e.tables }
 
-prepared_form : (p : PreparedModel) → IsPrepared p → p ≡ prepared_of p.a.schema p.a.root p.a.tables p.b.tables p.units
+pub prepared_form : (p : PreparedModel) → IsPrepared p → p ≡ prepared_of p.a.schema p.a.root p.a.tables p.b.tables p.units
 prepared_form p is =
     let a : p.a ≡ engine_at A p.a.schema p.a.root p.a.tables = engine_form p.a A p.a.schema p.a.root is.site_a refl refl is.staged_a in
     let b : p.b ≡ engine_at B p.a.schema p.a.root p.b.tables = engine_form p.b B p.a.schema p.a.root is.site_b is.schema is.root is.staged_b in
@@ -36,7 +36,7 @@ abbrev or_none : Compiled → List UnitModel
 or_none (Ok units) = units
 or_none (Err e) = []
 
-units_same : ShapesLaw → (site : Site) (p q : PreparedModel) → AreWorlds site p q → q.units ≡ p.units
+pub units_same : ShapesLaw → (site : Site) (p q : PreparedModel) → AreWorlds site p q → q.units ≡ p.units
 units_same law site p q w =
     let shapes : SameShapes p.a.schema p.a.root (union_of p) (union_of q) = law site p.a.schema p.a.root (union_of p) (union_of q) w.first.sound w.first.numbers w.agree in
     let made : units_over p.a.schema p.a.root (union_of q) ≡ Ok q.units

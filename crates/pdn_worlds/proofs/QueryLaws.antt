@@ -41,7 +41,7 @@ use Rattle.pdn_worlds.proofs.ViewLaws.{map_where, range_below}
 
 -- ---- one world: what the root is given in plain
 module _ (p : PreparedModel) (tape : Tape) (ticket : ℕ) where
-  one_shared : (u : ℕ) → Shared (secure_run p tape ticket u).a.outputs (secure_run p tape ticket u).b.outputs (output_words (secure_plain p u) (net_at p u))
+  pub one_shared : (u : ℕ) → Shared (secure_run p tape ticket u).a.outputs (secure_run p tape ticket u).b.outputs (output_words (secure_plain p u) (net_at p u))
   unfolding secure_run
   one_shared u = dealt_shared (net_at p u) tape (record { ticket = ticket; unit = u }) (engines_own p.a p.b (unit_at p u)) nothing_given
 
@@ -49,11 +49,11 @@ module _ (p : PreparedModel) (tape : Tape) (ticket : ℕ) where
   runs_shared [] = shared_nothing
   runs_shared (u ∷ us) = shared_append (one_shared u) (runs_shared us)
 
-  given_shared : Shared (outputs_of (secure_runs p tape ticket)).a (outputs_of (secure_runs p tape ticket)).b (root_plain p).given
+  pub given_shared : Shared (outputs_of (secure_runs p tape ticket)).a (outputs_of (secure_runs p tape ticket)).b (root_plain p).given
   given_shared = runs_shared (secure_numbers p.units)
 
   -- so the root runs on these plain words
-  root_runs_on : (world p.own (outputs_of (secure_runs p tape ticket))).inputs ≡ root_plain p
+  pub root_runs_on : (world p.own (outputs_of (secure_runs p tape ticket))).inputs ≡ root_plain p
   root_runs_on = ap (λ (given : List ℕ). inputs_of p.own given) given_shared.opens
 
 -- ---- what a site puts in itself

@@ -16,7 +16,7 @@ use Rattle.pdn_worlds.specs.PlainWords.{net_at, plain_at}
 use Rattle.pdn_worlds.specs.TapeChange.{section_length_at, has_section, section_words, changed_words, is_of_query, shift_tape}
 use Rattle.pdn_worlds.proofs.TapeRows.{word_of_first, first_are}
 
-length-section_words : (p : PreparedModel) (tape : Tape) (ticket u : ℕ) → length (section_words p tape ticket u) ≡ section_length_at p u
+pub length-section_words : (p : PreparedModel) (tape : Tape) (ticket u : ℕ) → length (section_words p tape ticket u) ≡ section_length_at p u
 length-section_words p tape ticket u = length-first_words (tape ticket u) (section_length_at p u)
 
 -- a unit with a section reads the changed words on the changed tape
