@@ -1,5 +1,5 @@
 -- All views of a file of queries at once, and its change made back.
-use Rattle.std.proofs.Common.{◌≡◌, ◌≢◌, ℕ, List, [], ◌∷◌, map, true, false, refl, sym, ap, ap₂, ◌∙◌, subst, ⊎_elim}
+use Rattle.std.proofs.Common.{◌≡◌, ◌≢◌, ℕ, List, [], ◌∷◌, map, refl, sym, ap, ap₂, ◌∙◌, subst, ⊎_elim}
 use Rattle.std.specs.Prelude.{◌&&◌, nat_lt, ◌==◌, if◌then◌else◌, slice_index}
 use Rattle.std.specs.List.{AllByRecursion}
 use Rattle.std.proofs.lemmas.Bool.{cond-false, and_left, ne_eqb, cases_eq}
@@ -11,7 +11,7 @@ use Rattle.pdn_broker.specs.Prepared.{PreparedModel}
 use Rattle.pdn_shift.specs.Changes.{shift_words}
 use Rattle.pdn_worlds.specs.PlainWords.{net_at, plain_at}
 use Rattle.pdn_worlds.specs.TapeChange.{has_section, section_length_at, is_of_query, changed_words, shift_tape}
-use Rattle.pdn_worlds.specs.WholeFile.{Query, shift_query, shift_file, seen_first, seen_second, AllAreWorlds, UsesTicketsOnce, FileLaw, FileBackLaw, exchanged}
+use Rattle.pdn_worlds.specs.WholeFile.{Query, shift_query, shift_file, seen_first, AllAreWorlds, UsesTicketsOnce, FileLaw, FileBackLaw, exchanged}
 use Rattle.pdn_worlds.proofs.TapeRows.{first_same}
 use Rattle.pdn_worlds.proofs.ViewLaws.{own_ticket_law}
 use Rattle.pdn_worlds.proofs.QueryLaws.{transcript_law, way_back_law}

@@ -1,16 +1,15 @@
 -- Two worlds in one form: both of one schema, one tree and the same units.
-use Rattle.std.proofs.Common.{◌≡◌, ℕ, List, [], refl, sym, ap, ap₂, ◌∙◌, subst, Ok, Err}
+use Rattle.std.proofs.Common.{◌≡◌, List, [], refl, sym, ap, ap₂, ◌∙◌, subst, Ok, Err}
 use Rattle.pdn_base.specs.declared.site.Site.{Site}
 use Rattle.pdn_base.specs.declared.site.Site.TheVariants.{A, B}
 use Rattle.pdn_base.specs.Operators.{Rows}
 use Rattle.pdn_schema.specs.Models.{SchemaModel}
 use Rattle.pdn_tree.specs.declared.node.Node.{Node}
-use Rattle.pdn_level.specs.Models.{SegmentModel}
 use Rattle.pdn_level.specs.Levels.{segments_of}
 use Rattle.pdn_site.specs.Models.{UnitModel}
 use Rattle.pdn_site.specs.Compiling.{Compiled}
 use Rattle.pdn_site.specs.Engines.{EngineModel, IsEngine}
-use Rattle.pdn_agree.specs.Agreement.{Union, Agree}
+use Rattle.pdn_agree.specs.Agreement.{Agree}
 use Rattle.pdn_agree.specs.EqualShapes.{SameShapes, ShapesLaw, units_over}
 use Rattle.pdn_broker.specs.Prepared.{PreparedModel, IsPrepared, engine_at, prepared_of}
 use Rattle.pdn_worlds.specs.TwoWorlds.{AreWorlds, union_of, SecondWorldLaw}

@@ -1,9 +1,9 @@
 -- What a site sees of a whole query is the same in two worlds.
-use Rattle.std.proofs.Common.{◌≡◌, ℕ, zero, suc, ◌-◌, ◌<◌, true, List, [], ◌∷◌, ◌++◌, length, get_or, map, refl, sym, ap, ap₂, ◌∙◌, subst, arith, Option, Some, None}
+use Rattle.std.proofs.Common.{◌≡◌, ℕ, ◌-◌, ◌<◌, true, List, [], ◌∷◌, ◌++◌, length, map, refl, sym, ap, ap₂, ◌∙◌, subst, arith, Option, Some, None}
 use Rattle.std.specs.Prelude.{nat_lt}
-use Rattle.std.specs.List.{All, AllByRecursion, flat_map, range_with_len}
+use Rattle.std.specs.List.{AllByRecursion, flat_map, range_with_len}
 use Rattle.std.proofs.lemmas.Bool.{and_from, lt-ltb}
-use Rattle.std.proofs.lemmas.List.Elements.{All-filter, All-from_recursion, filter_passes, recursion_from_All}
+use Rattle.std.proofs.lemmas.List.Elements.{All-filter, filter_passes, recursion_from_All}
 use Rattle.pdn_base.specs.declared.site.Site.{Site}
 use Rattle.pdn_base.specs.declared.site.Site.TheVariants.{A, B}
 use Rattle.pdn_base.specs.Operators.{Rows}
@@ -20,7 +20,7 @@ use Rattle.pdn_site.specs.NetMeaning.{slices_of}
 use Rattle.pdn_site.specs.Engines.{segment_number, value_of, secure_words}
 use Rattle.pdn_agree.specs.Agreement.{own_tables}
 use Rattle.pdn_agree.specs.EqualShapes.{SameShapes, ShapesLaw}
-use Rattle.pdn_view.specs.Views.{Part, ViewWords}
+use Rattle.pdn_view.specs.Views.{Part}
 use Rattle.pdn_broker.specs.declared.answered.Dealt.{Dealt}
 use Rattle.pdn_broker.specs.Runs.{Both, Shared, Tape, section_at, world, run_on}
 use Rattle.pdn_broker.specs.Answering.{nothing_given, root_own}

@@ -10,8 +10,7 @@ use Rattle.pdn_gmw.specs.Pairs.{Run}
 use Rattle.pdn_site.specs.declared.unit.UnitKind.{UnitKind}
 use Rattle.pdn_site.specs.declared.unit.UnitKind.TheVariants.{Plain, Secure, Root}
 use Rattle.pdn_view.specs.Views.{Part}
-use Rattle.pdn_broker.specs.declared.answered.Dealt.{Dealt}
-use Rattle.pdn_broker.specs.Runs.{Both, Tape, section_at, run_on}
+use Rattle.pdn_broker.specs.Runs.{Tape, section_at, run_on}
 use Rattle.pdn_broker.specs.Answering.{nothing_given}
 use Rattle.pdn_broker.specs.Units.{net_or, secure_numbers}
 use Rattle.pdn_broker.specs.Running.{unit_at, root_number, root_of, engines_own, secure_run, secure_runs, outputs_of, root_run}
