@@ -1,3 +1,4 @@
 pub mod PlainWords
 pub mod TapeChange
 pub mod TwoWorlds
+pub mod WholeFile

@@ -1,5 +1,5 @@
 -- The plain words that the circuits of a prepared query read, whatever the tape.
-use Rattle.std.specs.Prelude.{ℕ, List, [], length}
+use Rattle.std.specs.Prelude.{ℕ, List, []}
 use Rattle.std.specs.List.{flat_map}
 use Rattle.pdn_circuit.specs.Gates.{Net, InputWords, output_words}
 use Rattle.pdn_site.specs.declared.unit.UnitKind.{UnitKind}

@@ -3,7 +3,8 @@ use Rattle.std.specs.Prelude.{◌≡◌, ℕ, false}
 use Rattle.pdn_base.specs.declared.site.Site.{Site}
 use Rattle.pdn_agree.specs.Agreement.{Union, Agree}
 use Rattle.pdn_broker.specs.Runs.{Tape}
-use Rattle.pdn_broker.specs.Prepared.{PreparedModel, IsPrepared}
+use Rattle.pdn_site.specs.Meaning.{AreTables}
+use Rattle.pdn_broker.specs.Prepared.{PreparedModel, IsPrepared, prepared_of}
 use Rattle.pdn_broker.specs.Views.{site_view}
 use Rattle.pdn_worlds.specs.TapeChange.{is_of_query, shift_tape}
 
@@ -17,6 +18,11 @@ pub record AreWorlds (site : Site) (p q : PreparedModel) : Type 0 where
   pub schema : q.a.schema ≡ p.a.schema
   pub root : q.a.root ≡ p.a.root
   pub agree : Agree site p.a.schema (union_of p) (union_of q)
+
+-- Every union that agrees for the site gives a second world, with the same units, where its tables have values of the code's types.
+abbrev pub SecondWorldLaw : Type 0
+SecondWorldLaw = (site : Site) (p : PreparedModel) (u : Union) → IsPrepared p → Agree site p.a.schema (union_of p) u → AreTables p.a.schema u.a → AreTables p.a.schema u.b
+    → AreWorlds site p (prepared_of p.a.schema p.a.root u.a u.b p.units)
 
 -- Equal transcripts: what the site sees in the first world on a tape, it sees in the second on the changed tape.
 abbrev pub TranscriptLaw : Type 0
