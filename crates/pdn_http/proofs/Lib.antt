@@ -1,0 +1,7 @@
+mod HeadLaws
+mod LineLaws
+mod LookLaws
+mod OutcomeLaws
+mod PathLaws
+mod RouteLaws
+mod TurnLaws
