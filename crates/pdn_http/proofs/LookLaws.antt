@@ -23,20 +23,22 @@ pub shows_head : (callers : List Caller) (bytes : List ℕ) (lines : List Header
     → (spans.len ≤ length bytes) × Heads callers bytes wanted (drop spans.len bytes)
 shows_head callers bytes lines spans wanted short room within of asks =
     let h = of.0 in
-    let is = of.1 in
-    (within.section.len_fits, record {
-      head = h;
-      is = record {
-        reads = is.reads;
-        short = omega (arith, is.len, within.section.len_fits, short);
-        few = few_lines bytes lines spans.headers 64 h is.fields room;
-      };
-      asks = record {
-        route = asks.0;
-        leads = subst (λ target. Leads callers (path_of target) asks.0) is.path asks.1.0;
-        is = asks.1.1 ∙ ap (λ method. want_of method (map (header_bytes bytes) (take spans.headers lines)) asks.0) is.method ∙ ap (λ fields. want_of h.method fields asks.0) is.fields;
-      };
-    })
+    let is = of.1 in (
+      within.section.len_fits,
+      record {
+        head = h;
+        is = record {
+          reads = is.reads;
+          short = omega (arith, is.len, within.section.len_fits, short);
+          few = few_lines bytes lines spans.headers 64 h is.fields room;
+        };
+        asks = record {
+          route = asks.0;
+          leads = subst (λ target. Leads callers (path_of target) asks.0) is.path asks.1.0;
+          is = asks.1.1 ∙ ap (λ method. want_of method (map (header_bytes bytes) (take spans.headers lines)) asks.0) is.method ∙ ap (λ fields. want_of h.method fields asks.0) is.fields;
+        };
+      },
+    )
 
 pub shows_more : (bytes : List ℕ) → HasNoRequest bytes → HasNoHead bytes
 shows_more bytes none h rest is = none h rest is.reads

@@ -75,9 +75,13 @@ caller_at (x ∷ xs) (suc i) c all e = caller_at xs i c all.1 e
 -- the parts of a path that leads somewhere
 pub parts : (callers : List Caller) (path : List ℕ) (call : Call) → IsCallers callers → IsRoute callers path call
     → (caller : List ℕ) × (number : List ℕ) × IsPart caller × IsPart number × (path ≡ call_path caller number)
-parts callers path call are route =
-    (route.caller.name, decimal call.number, name_is_part route.caller.name (caller_at callers call.caller route.caller are.each route.known).name,
-    decimal_is_part call.number route.fits, route.spelled)
+parts callers path call are route = (
+  route.caller.name,
+  decimal call.number,
+  name_is_part route.caller.name (caller_at callers call.caller route.caller are.each route.known).name,
+  decimal_is_part call.number route.fits,
+  route.spelled,
+)
 
 -- what the router doesn't find leads nowhere
 pub unfound : (callers : List Caller) (path : List ℕ) (router : RowsOf (RouteOf (Unit {0}))) → IsCallers callers → HasRoute router
@@ -85,5 +89,5 @@ pub unfound : (callers : List Caller) (path : List ℕ) (router : RowsOf (RouteO
 unfound callers path router are has none call route =
     let p = parts callers path call are route in
     let found : first router path ≡ Some has.0 =
-        ap (λ r. first r path) has.1 ∙ ap (first (row call_pattern has.0)) p.2.2.2.2 ∙ finds_path p.0 p.1 has.0 p.2.0 p.2.1 in
+    ap (λ r. first r path) has.1 ∙ ap (first (row call_pattern has.0)) p.2.2.2.2 ∙ finds_path p.0 p.1 has.0 p.2.0 p.2.1 in
     none-some has.0 (sym none ∙ found)

@@ -25,7 +25,8 @@ pub(crate) fn read_body<L: Link>(
     let mut body = Vec::with_capacity(alloc, size)?;
     body.extend_from_slice(&come[..come.len().min(size)])?;
     while body.len() < size {
-        if !receive(link, &mut body, size - body.len())? {
+        let missing = size - body.len();
+        if !receive(link, &mut body, missing)? {
             return Err(NoRequest::Refused(Refusal::Request));
         }
     }

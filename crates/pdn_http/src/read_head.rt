@@ -45,7 +45,8 @@ pub(crate) fn read_head<L: Link>(
 {
     let mut bytes = Vec::with_capacity(alloc, MOST)?;
     while bytes.len() < MOST {
-        if !receive(link, &mut bytes, MOST - bytes.len())? {
+        let room = MOST - bytes.len();
+        if !receive(link, &mut bytes, room)? {
             return Err(ended(&bytes));
         }
         match front_of(router, callers, &bytes) {

@@ -37,10 +37,10 @@ fn posting(call: Call, size: Result<Option<usize>, Refusal>) -> Want
 fn by_method(method: &[u8], call: Call, size: Result<Option<usize>, Refusal>) -> Want
     ensures { result ≡ by_method method.now call size }
 {
-    if method == b"GET" {
+    if method == b"GET".as_slice() {
         return getting(call, size);
     }
-    if method == b"POST" {
+    if method == b"POST".as_slice() {
         return posting(call, size);
     }
     Want::Refused(Refusal::Method)
