@@ -1,6 +1,7 @@
 mod HeadLaws
 mod LineLaws
 mod LookLaws
+mod OneOutcome
 mod OutcomeLaws
 mod PathLaws
 mod RouteLaws

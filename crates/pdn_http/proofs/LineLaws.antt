@@ -1,5 +1,5 @@
 -- The lines of a head, by their names.
-use Rattle.std.proofs.Common.{◌≡◌, List, [], ◌∷◌, ℕ, Bool, true, false, ◌||◌, refl, sym, ap, ◌∙◌, absurd, arith, cond, length, map, take, ◌≤◌, suc}
+use Rattle.std.proofs.Common.{◌≡◌, List, [], ◌∷◌, ℕ, Bool, true, false, ◌||◌, refl, sym, ap, ◌∙◌, arith, cond, length, map, take, ◌≤◌, suc}
 use Rattle.std.proofs.lemmas.Bool.{false≢true}
 use Rattle.std.proofs.lemmas.List.Elements.{recursion_from_All}
 use Rattle.std.proofs.Common.{length-take}

@@ -34,8 +34,8 @@ shows_head callers bytes lines spans wanted short room within of asks =
         };
         asks = record {
           route = asks.0;
-          leads = subst (λ target. Leads callers (path_of target) asks.0) is.path asks.1.0;
-          is = asks.1.1 ∙ ap (λ method. want_of method (map (header_bytes bytes) (take spans.headers lines)) asks.0) is.method ∙ ap (λ fields. want_of h.method fields asks.0) is.fields;
+          leads = subst (λ target. Leads callers (path_of target) asks.0) is.path asks.1;
+          is = asks.2 ∙ ap (λ method. want_of method (map (header_bytes bytes) (take spans.headers lines)) asks.0) is.method ∙ ap (λ fields. want_of h.method fields asks.0) is.fields;
         };
       },
     )

@@ -1,5 +1,5 @@
 -- The paths that the router of the one route finds.
-use Rattle.std.proofs.Common.{◌≡◌, ◌≢◌, List, [], ◌∷◌, ◌++◌, ℕ, zero, suc, ◌+◌, ◌-◌, ◌<◌, ◌≤◌, ◌^◌, Bool, true, false, length, Some, None, refl, sym, ap, ◌∙◌, subst, rules, arith, cond, eqb, ltb, ne_eqb, eq-eqb, codes, drop, length-append, absurd, lt_irrefl, mod-lt, ◌%◌}
+use Rattle.std.proofs.Common.{◌≡◌, ◌≢◌, List, [], ◌∷◌, ◌++◌, ℕ, zero, suc, ◌+◌, ◌-◌, ◌<◌, ◌≤◌, ◌^◌, Bool, true, false, length, Some, None, refl, sym, ap, ◌∙◌, subst, rules, arith, cond, eqb, ltb, ne_eqb, eq-eqb, codes, drop, length-append, lt_irrefl, mod-lt, ◌%◌}
 use Rattle.std.proofs.Math.Seq.{drop-append_seam}
 use Rattle.std.specs.Prelude.{Option, ◌==◌, ◌&&◌, decimal}
 use native.Mathlib.Numerals.{unary_clauses}
@@ -144,7 +144,12 @@ some_part (b ∷ w) some p = p
 
 name_some : (w : List ℕ) → is_name w ≡ true → 0 < length w
 unfolding is_name
-name_some w e = ltb-true 0 (length w) (and_true (ltb 0 (length w)) _ e).0
+name_some w e =
+    let first = (and_true _ _ (and_true _ _ (and_true _ _ e).0).0).0 in
+    ltb-true 0 (length w) (and_true _ _ first).0
+
+pub name_part_of : (w : List ℕ) → is_name w ≡ true → Part w
+name_part_of w e = name_part w (name_bytes_of w e)
 
 pub name_is_part : (w : List ℕ) → is_name w ≡ true → IsPart w
 name_is_part w e = some_part w (name_some w e) (name_part w (name_bytes_of w e))
@@ -160,5 +165,5 @@ IsPart-snoc (b ∷ ds) d low other p = Part-snoc (b ∷ ds) d low other p
 pub decimal_is_part : (n : ℕ) → n < 2 ^ 64 → IsPart (decimal n)
 decimal_is_part n fits = decimal_by_steps (λ m ds. IsPart ds)
     (λ m low. (omega (arith, low), λ e. omega (arith, e), tt))
-    (λ m ds high part. let d = mod-lt m 10 (omega arith) in IsPart-snoc ds (48 + m % 10) (omega (arith, d)) (λ e. omega (arith, e)) part)
+    (λ m ds high part. let d : m % 10 < 10 = mod-lt m (omega arith) in IsPart-snoc ds (48 + m % 10) (omega (arith, d)) (λ e. omega (arith, e)) part)
     n fits

@@ -1,9 +1,14 @@
 -- Where paths lead.
-use Rattle.std.proofs.Common.{◌≡◌, ◌≢◌, ◌<◌, ◌≤◌, ◌^◌, ◌+◌, ℕ, suc, zero, List, [], ◌∷◌, ◌++◌, length, get_or, None, Some, Bool, true, false, refl, sym, ap, ◌∙◌, subst, arith, absurd, codes, ⊎_elim}
+use Rattle.std.proofs.Common.{◌≡◌, ◌≢◌, ◌<◌, ◌≤◌, ◌^◌, ◌+◌, ℕ, suc, zero, List, [], ◌∷◌, ◌++◌, length, get_or, None, Some, Bool, true, false, refl, sym, ap, ◌∙◌, subst, arith, codes, ⊎_elim}
 use Rattle.std.proofs.Common.{append_assoc, eq-or-lt_of_le, le_of_suc-le-suc, zero-lt-suc, not-suc-le-zero}
 use mathlib.Core.List.{append_cancel_left}
 use Rattle.std.specs.Prelude.{Option, decimal}
 use Rattle.std.specs.List.{slice_get}
+use Rattle.std.specs.Str.{bytes_eq, IsUtf8}
+use Rattle.std.proofs.lemmas.Bool.{false≢true}
+use Rattle.std.proofs.lemmas.Fmt.{IsAscii-decimal}
+use Rattle.std.proofs.lemmas.Slice.Eq.{bytes_eq-Decides}
+use Rattle.std.proofs.lemmas.Str.{IsUtf8-from_ascii}
 use Rattle.std.proofs.lemmas.Option.{slice_get_within, same_Some, none-some}
 use Rattle.pdn_schema.specs.declared.schema.Caller.{Caller}
 use Rattle.pdn_schema.specs.Schemas.{IsCallers, IsCaller}
@@ -47,6 +52,24 @@ no_number caller path rest behind_it text here next last none n fits is =
     (behind caller behind_it (codes "/queries/" ++ decimal n) rest next
     (behind (codes "/callers/") rest (caller ++ (codes "/queries/" ++ decimal n)) path here is)))
 
+-- ---- the number
+
+abbrev pub Parses : List ℕ → Option ℕ → Type 0
+Parses text result = (n : ℕ) → n < 2 ^ 64 → text ≡ decimal n → result ≡ Some n
+
+pub no_number_parses : (text : List ℕ) → Parses text None → (n : ℕ) → n < 2 ^ 64 → text ≢ decimal n
+no_number_parses text parses n fits is = none-some n (parses n fits is)
+
+pub this_number : (text : List ℕ) (m : ℕ) → bytes_eq text (decimal m) ≡ true → text ≡ decimal m
+this_number text m same = (bytes_eq-Decides text (decimal m)).0 same
+
+pub other_number : (text : List ℕ) (m : ℕ) → Parses text (Some m) → bytes_eq text (decimal m) ≡ false → (n : ℕ) → n < 2 ^ 64 → text ≢ decimal n
+other_number text m parses differs n fits is =
+    false≢true (sym differs ∙ (bytes_eq-Decides text (decimal m)).1 (is ∙ ap decimal (sym (same_Some m n (parses n fits is)))))
+
+pub no_text_no_number : (text : List ℕ) → ¬ (IsUtf8 text) → (n : ℕ) → n < 2 ^ 64 → text ≢ decimal n
+no_text_no_number text none n fits is = none (subst IsUtf8 (sym is) (IsUtf8-from_ascii (decimal n) (IsAscii-decimal n fits)))
+
 -- ---- over the callers
 
 -- none of the callers before this one
@@ -67,7 +90,7 @@ none_of_all callers path at all before call route = before call (omega (arith, a
 
 -- ---- with the router
 
-caller_at : (callers : List Caller) (i : ℕ) (c : Caller) → AllByRecursion IsCaller callers → slice_get callers i ≡ Some c → IsCaller c
+pub caller_at : (callers : List Caller) (i : ℕ) (c : Caller) → AllByRecursion IsCaller callers → slice_get callers i ≡ Some c → IsCaller c
 caller_at [] i c all e = absurd (none-some c e)
 caller_at (x ∷ xs) zero c all e = subst IsCaller (same_Some x c e) all.0
 caller_at (x ∷ xs) (suc i) c all e = caller_at xs i c all.1 e
@@ -89,5 +112,5 @@ pub unfound : (callers : List Caller) (path : List ℕ) (router : RowsOf (RouteO
 unfound callers path router are has none call route =
     let p = parts callers path call are route in
     let found : first router path ≡ Some has.0 =
-    ap (λ r. first r path) has.1 ∙ ap (first (row call_pattern has.0)) p.2.2.2.2 ∙ finds_path p.0 p.1 has.0 p.2.0 p.2.1 in
+    ap (λ r. first r path) has.1 ∙ ap (first (row call_pattern has.0)) p.4 ∙ finds_path p.0 p.1 has.0 p.2 p.3 in
     none-some has.0 (sym none ∙ found)

@@ -9,9 +9,9 @@ use Rattle.std.proofs.KnownBytes.{Consumes-trans}
 use Rattle.pdn_http.specs.Receiving.{Received, BodyCame, BodyEnded}
 
 -- all that has come, after one more turn
-pub Consumes-turn : (old mid new : Option (List ℕ)) (before after : List ℕ) (most : ℕ) (some : Bool)
+pub consumes_turn : (old mid new : Option (List ℕ)) (before after : List ℕ) (most : ℕ) (some : Bool)
     → Consumes old mid before → Received mid new before after most some → Consumes old new after
-Consumes-turn old mid new before after most some taken r =
+consumes_turn old mid new before after most some taken r =
     subst (Consumes old new) (sym r.all) (Consumes-trans old mid new before r.got taken r.taken)
 
 -- what has come so far behind what had come before
@@ -46,7 +46,7 @@ unchanged {before} r none = r.all ∙ ap (λ l. before ++ l) (r.end none).1 ∙ 
 empty_by_length : (xs : List ℕ) → length xs ≡ 0 → xs ≡ []
 empty_by_length xs e = sym (take_all 0 xs (omega (arith, e)))
 
-abbrev front_of : List ℕ → ℕ → List ℕ
+abbrev pub front_of : List ℕ → ℕ → List ℕ
 front_of come size = take (min (length come) size) come
 
 short_front : (come got : List ℕ) (size : ℕ) → length come < size → length (front_of come size ++ got) ≡ size

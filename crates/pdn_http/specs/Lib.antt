@@ -3,4 +3,3 @@ pub mod Routes
 pub mod Requests
 pub mod Fronts
 pub mod Receiving
-pub mod Replies

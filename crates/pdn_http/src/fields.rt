@@ -1,5 +1,5 @@
 //! The lines of a head, by their names.
-ghost use Rattle.std.specs.Prelude.{◌≡◌, ◌∷◌, [], length, map};
+ghost use Rattle.std.specs.Prelude.{◌≡◌, length, map};
 ghost use Rattle.std.specs.List.{AllByRecursion, list_any};
 ghost use Rattle.httparse.specs.Spans.{IsHeaderWithin, header_bytes};
 ghost use Rattle.pdn_http.specs.Heads.{has_name, values_of};
@@ -28,6 +28,7 @@ pub(crate) fn has_line(buf: &[u8], lines: &[HeaderSpan], name: &[u8]) -> bool
 }
 
 /// How long the body is by its lines of this name.
+#[tactic(auto, using(crate::proofs::LineLaws::none_named, crate::proofs::LineLaws::again_named))]
 pub(crate) fn body_size(
     buf: &[u8],
     lines: &[HeaderSpan],

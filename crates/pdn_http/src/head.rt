@@ -28,6 +28,7 @@ pub(crate) enum Front {
 }
 
 /// What these bytes show, the first ones of a connection.
+#[tactic(auto, using(crate::proofs::LookLaws::shows_head, crate::proofs::LookLaws::shows_more, crate::proofs::LookLaws::shows_never))]
 pub(crate) fn front_of(router: &Router<()>, callers: &[Caller], bytes: &[u8]) -> Front
     requires router { HasRoute router.now }
     requires callers { IsCallers callers.now }
@@ -46,6 +47,7 @@ pub(crate) fn front_of(router: &Router<()>, callers: &[Caller], bytes: &[u8]) ->
 }
 
 /// What a head asks for, whose parts are there.
+#[tactic(auto, using(crate::proofs::LineLaws::lines_within))]
 fn want_of(
     router: &Router<()>,
     callers: &[Caller],
@@ -78,7 +80,7 @@ fn route_at(router: &Router<()>, callers: &[Caller], target: &[u8]) -> Option<Ca
     requires text { IsUtf8 target.now }
     ensures { Leads callers.now (path_of target.now) result }
 {
-    match std::str::from_utf8(target) {
+    match str::from_utf8(target) {
         Ok(target) => route_of(router, callers, target),
         Err(_) => None,
     }

@@ -1,8 +1,8 @@
 //! The length of a body, as it is given.
-ghost use Rattle.std.specs.Prelude.{◌≡◌, ◌≤◌, IfOk, IfSome};
+ghost use Rattle.std.specs.Prelude.{◌≡◌};
 ghost use Rattle.std.specs.Char.{is_ascii_digit};
 ghost use Rattle.std.specs.List.{list_all};
-ghost use Rattle.pdn_http.specs.Requests.{is_length, size_of, at_most_4096};
+ghost use Rattle.pdn_http.specs.Requests.{is_length, size_of};
 
 use crate::Refusal;
 use pdn_base::number;

@@ -5,6 +5,7 @@ mod body;
 mod call;
 mod fields;
 mod head;
+mod laws;
 mod length;
 mod read_head;
 mod receive;
@@ -14,5 +15,6 @@ mod route;
 mod want;
 
 pub use call::Call;
+pub use laws::connections_have_one_outcome;
 pub use refusal::Refusal;
 pub use request::{NoRequest, Request, read_request};

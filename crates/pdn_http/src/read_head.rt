@@ -28,6 +28,7 @@ pub(crate) struct Heard {
 
 /// Receives the head of a connection's request: at most 8192 bytes, and none once it is there, or
 /// can't be any more.
+#[tactic(auto, using(crate::proofs::OutcomeLaws::no_head_never, crate::proofs::OutcomeLaws::no_head_full, crate::proofs::OutcomeLaws::ended, crate::proofs::OutcomeLaws::no_head_by_fault, crate::proofs::TurnLaws::consumes_turn, crate::proofs::TurnLaws::longer, crate::proofs::TurnLaws::unchanged, crate::proofs::HeadLaws::nothing_has_no_head))]
 pub(crate) fn read_head<L: Link>(
     alloc: Global,
     link: &mut L,

@@ -35,6 +35,7 @@ pub enum NoRequest {
 
 /// The request that the bytes of a connection make, or why they make none: the first row that
 /// applies. Unread comes only where the link's count of faults rose. Nothing is sent.
+#[tactic(auto, using(crate::proofs::OutcomeLaws::unheard))]
 pub fn read_request<L: Link>(
     alloc: Global,
     link: &mut L,

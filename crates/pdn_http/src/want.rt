@@ -1,8 +1,6 @@
 //! What a head asks for.
-ghost use Rattle.std.specs.Prelude.{◌≡◌, ◌×◌, List, ℕ, length, Option, Result, true};
-ghost use Rattle.std.specs.Str.{bytes_eq};
-ghost use Rattle.pdn_http.specs.Requests.{by_method, getting, if_known, posting, want_of};
-ghost use Rattle.pdn_http.specs.Heads.{values_of, has_name};
+ghost use Rattle.std.specs.Prelude.{◌≡◌};
+ghost use Rattle.pdn_http.specs.Requests.{by_method, getting, if_known, posting};
 
 use crate::{Call, Refusal};
 

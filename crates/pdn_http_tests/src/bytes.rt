@@ -50,6 +50,8 @@ pub fn read<L: Link>(alloc: Global, link: &mut L) -> Result<String, Fail> {
 /// What these bytes come to, where no call fails.
 pub fn outcome(alloc: Global, bytes: &[u8]) -> Result<String, Fail> {
     let input = bytes.to_vec(alloc)?;
-    let mut link = MemLink::new(alloc, input, 0, Vec::new(alloc)).ok().ok_or("memory")?;
+    let mut link = MemLink::new(alloc, input, 0, Vec::new(alloc))
+        .ok()
+        .ok_or("memory")?;
     read(alloc, &mut link)
 }

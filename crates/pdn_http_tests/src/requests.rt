@@ -10,42 +10,96 @@ const POST: &str = "POST /callers/ann/queries/7 HTTP/1.1\r\ncontent-length: 3\r\
 const CASES: &[(&str, &str)] = &[
     ("", "silent"),
     ("GET /callers/ann/queries/7 HTTP/1.1\r\n\r\n", "get 0 7"),
-    ("GET /callers/bo/queries/18446744073709551615?x=1/2 HTTP/1.0\r\n\r\n", "get 1 18446744073709551615"),
+    (
+        "GET /callers/bo/queries/18446744073709551615?x=1/2 HTTP/1.0\r\n\r\n",
+        "get 1 18446744073709551615",
+    ),
     (POST, "post 0 7 abc"),
     // bytes behind the body, as of a second request, are passed over
-    ("POST /callers/ann/queries/7 HTTP/1.1\r\nContent-Length:  3 \r\n\r\nabcGET / HTTP/1.1\r\n\r\n", "post 0 7 abc"),
+    (
+        "POST /callers/ann/queries/7 HTTP/1.1\r\nContent-Length:  3 \r\n\r\nabcGET / HTTP/1.1\r\n\r\n",
+        "post 0 7 abc",
+    ),
     // an empty line first, and lines that end in a line feed alone
-    ("\r\n\nPOST /callers/ann/queries/0 HTTP/1.1\nHOST: a\ncontent-length: 0\n\n", "post 0 0 "),
+    (
+        "\r\n\nPOST /callers/ann/queries/0 HTTP/1.1\nHOST: a\ncontent-length: 0\n\n",
+        "post 0 0 ",
+    ),
     ("GET /callers/ann/queries/7 HTTP/2.0\r\n\r\n", "request"),
     ("GET /callers/ann/queries/7 HTTP/1.1\r\na: b", "request"),
     ("GET /callers/\0/queries/7 HTTP/1.1\r\n\r\n", "request"),
-    ("GET /callers/ann/queries/7 HTTP/1.1\r\na\0: b\r\n\r\n", "request"),
+    (
+        "GET /callers/ann/queries/7 HTTP/1.1\r\na\0: b\r\n\r\n",
+        "request",
+    ),
     ("GET /callers/\u{e9}/queries/7 HTTP/1.1\r\n\r\n", "unknown"),
-    ("PUT /callers/bob/queries/1 HTTP/1.1\r\nTransfer-Encoding: chunked\r\n\r\n", "encoding"),
-    ("POST /callers/ann/queries/1 HTTP/1.1\r\ntransfer-encoding: identity\r\ncontent-length: 3\r\n\r\nabc", "encoding"),
+    (
+        "PUT /callers/bob/queries/1 HTTP/1.1\r\nTransfer-Encoding: chunked\r\n\r\n",
+        "encoding",
+    ),
+    (
+        "POST /callers/ann/queries/1 HTTP/1.1\r\ntransfer-encoding: identity\r\ncontent-length: 3\r\n\r\nabc",
+        "encoding",
+    ),
     ("POST /callers/bob/queries/1 HTTP/1.1\r\n\r\n", "unknown"),
-    ("GET http://desk/callers/ann/queries/7 HTTP/1.1\r\n\r\n", "unknown"),
+    (
+        "GET http://desk/callers/ann/queries/7 HTTP/1.1\r\n\r\n",
+        "unknown",
+    ),
     ("GET /callers/ann/queries/ HTTP/1.1\r\n\r\n", "unknown"),
     ("GET /callers/ann/queries/7/ HTTP/1.1\r\n\r\n", "unknown"),
     ("GET /callers//queries/7 HTTP/1.1\r\n\r\n", "unknown"),
     ("GET /callers/ann/queries/07 HTTP/1.1\r\n\r\n", "unknown"),
     ("GET /callers/ann/queries/+7 HTTP/1.1\r\n\r\n", "unknown"),
     ("GET /callers/ann/queries/%37 HTTP/1.1\r\n\r\n", "unknown"),
-    ("GET /callers/ann/queries/18446744073709551616 HTTP/1.1\r\n\r\n", "unknown"),
+    (
+        "GET /callers/ann/queries/18446744073709551616 HTTP/1.1\r\n\r\n",
+        "unknown",
+    ),
     ("PUT /callers/ann/queries/1 HTTP/1.1\r\n\r\n", "method"),
     ("HEAD /callers/ann/queries/1 HTTP/1.1\r\n\r\n", "method"),
     ("get /callers/ann/queries/1 HTTP/1.1\r\n\r\n", "method"),
     ("POST /callers/ann/queries/1 HTTP/1.1\r\n\r\n", "length"),
-    ("POST /callers/ann/queries/1 HTTP/1.1\r\ncontent-length: 3\r\nContent-length: 3\r\n\r\nabc", "request"),
-    ("GET /callers/ann/queries/1 HTTP/1.1\r\ncontent-length: 3\r\ncontent-length: 3\r\n\r\n", "request"),
-    ("GET /callers/ann/queries/1 HTTP/1.1\r\ncontent-length: \r\n\r\n", "request"),
-    ("POST /callers/ann/queries/1 HTTP/1.1\r\ncontent-length: 3a\r\n\r\nabc", "request"),
-    ("POST /callers/ann/queries/1 HTTP/1.1\r\ncontent-length: -3\r\n\r\nabc", "request"),
-    ("POST /callers/ann/queries/1 HTTP/1.1\r\ncontent-length: 00000000003\r\n\r\nabc", "request"),
-    ("POST /callers/ann/queries/1 HTTP/1.1\r\ncontent-length: 0000000003\r\n\r\nabc", "post 0 1 abc"),
-    ("POST /callers/ann/queries/1 HTTP/1.1\r\ncontent-length: 4097\r\n\r\n", "long"),
-    ("GET /callers/ann/queries/1 HTTP/1.1\r\ncontent-length: 9999999999\r\n\r\n", "long"),
-    ("POST /callers/ann/queries/1 HTTP/1.1\r\ncontent-length: 4096\r\n\r\nabc", "request"),
+    (
+        "POST /callers/ann/queries/1 HTTP/1.1\r\ncontent-length: 3\r\nContent-length: 3\r\n\r\nabc",
+        "request",
+    ),
+    (
+        "GET /callers/ann/queries/1 HTTP/1.1\r\ncontent-length: 3\r\ncontent-length: 3\r\n\r\n",
+        "request",
+    ),
+    (
+        "GET /callers/ann/queries/1 HTTP/1.1\r\ncontent-length: \r\n\r\n",
+        "request",
+    ),
+    (
+        "POST /callers/ann/queries/1 HTTP/1.1\r\ncontent-length: 3a\r\n\r\nabc",
+        "request",
+    ),
+    (
+        "POST /callers/ann/queries/1 HTTP/1.1\r\ncontent-length: -3\r\n\r\nabc",
+        "request",
+    ),
+    (
+        "POST /callers/ann/queries/1 HTTP/1.1\r\ncontent-length: 00000000003\r\n\r\nabc",
+        "request",
+    ),
+    (
+        "POST /callers/ann/queries/1 HTTP/1.1\r\ncontent-length: 0000000003\r\n\r\nabc",
+        "post 0 1 abc",
+    ),
+    (
+        "POST /callers/ann/queries/1 HTTP/1.1\r\ncontent-length: 4097\r\n\r\n",
+        "long",
+    ),
+    (
+        "GET /callers/ann/queries/1 HTTP/1.1\r\ncontent-length: 9999999999\r\n\r\n",
+        "long",
+    ),
+    (
+        "POST /callers/ann/queries/1 HTTP/1.1\r\ncontent-length: 4096\r\n\r\nabc",
+        "request",
+    ),
 ];
 
 #[test]
@@ -99,7 +153,11 @@ fn the_bounds_of_a_head(rt: HostRuntime) -> Result<(), Fail> {
 #[test]
 fn a_link_that_fails_is_unread(rt: HostRuntime) -> Result<(), Fail> {
     let alloc = rt.alloc();
-    for (bytes, fail, wanted) in [("", 1, "unread"), (POST, 1, "unread"), (POST, 2, "post 0 7 abc")] {
+    for (bytes, fail, wanted) in [
+        ("", 1, "unread"),
+        (POST, 1, "unread"),
+        (POST, 2, "post 0 7 abc"),
+    ] {
         let input = bytes.as_bytes().to_vec(alloc)?;
         let fail = vec![in alloc; fail]?;
         let mut link = MemLink::new(alloc, input, 0, fail).ok().ok_or("memory")?;

@@ -6,6 +6,7 @@ use Rattle.std.specs.List.{list_all}
 use Rattle.std.specs.Str.{IsUtf8, IsAscii}
 use Rattle.std.proofs.lemmas.Str.{IsUtf8-from_ascii}
 use Rattle.std.proofs.lemmas.Option.{cond_some}
+use Rattle.std.specs.Prelude.{Result, Ok, Err, MatchResult, IsOk}
 use Rattle.pdn_base.specs.Codes.{is_code, is_code_byte, read_code, code_number}
 
 byte_ascii : (b : ℕ) → is_code_byte b ≡ true → b < 128
@@ -23,3 +24,8 @@ code_bytes bytes e = (and_parts _ (list_all is_code_byte bytes) e).1
 
 pub code_is_text : (bytes : List ℕ) (code : ℕ) → read_code bytes ≡ Some code → IsUtf8 bytes
 code_is_text bytes code reads = IsUtf8-from_ascii bytes (ascii bytes (code_bytes bytes (cond_some (is_code bytes) (code_number bytes) code reads).0))
+
+-- a reading that gives up for no other cause
+pub reads_text : {A E : Type 0} (r : Result A E) (P : A → Type 0) (Q : Type 0) (R : E → Type 0) → MatchResult r P (λ e. ¬ Q × R e) → Q → IsOk r
+reads_text (Ok x) P Q R cases is = refl
+reads_text (Err e) P Q R cases is = absurd (cases.0 is)

@@ -1,12 +1,13 @@
 -- Lists of JSON values, and their texts.
-use Rattle.std.proofs.Common.{◌≡◌, ◌<◌, ◌+◌, ℕ, List, [], ◌∷◌, ◌++◌, map, take, length, get_or, Vec, Global, Bool, true, false, refl, sym, ap, ◌∙◌, subst, codes, absurd}
+use Rattle.std.proofs.Common.{◌≡◌, ◌<◌, ◌+◌, ℕ, List, [], ◌∷◌, ◌++◌, map, take, length, get_or, Vec, Global, Bool, true, false, refl, sym, ap, ◌∙◌, subst, codes}
 use Rattle.std.proofs.Common.{append_assoc}
 use Rattle.std.proofs.lemmas.List.{map_more}
-use Rattle.serde_json.specs.Data.{Data, array}
+use Rattle.serde_json.specs.Data.{Data, array, string}
 use Rattle.serde_json.specs.View.{view, items_view}
 use Rattle.serde_json.specs.Written.{compact_text, has_float, items_text, items_have_float}
 use Rattle.serde_json.specs.declared.value.Value.{Value, Array}
 use Rattle.serde_json.proofs.Views.{view-Array}
+use Rattle.json.specs.Print.{quoted}
 use Rattle.pdn_reply.specs.Bodies.{after_commas, by_commas, list_text}
 use Rattle.pdn_reply.specs.Values.{Says, SayEach}
 
@@ -50,3 +51,7 @@ says_list jsons texts each = record {
   plain = ap has_float (view-Array jsons) ∙ plain jsons.items texts each;
   text_is = ap compact_text (view-Array jsons) ∙ ap (λ l. 91 ∷ l) (items jsons.items texts each);
 }
+
+-- a string
+pub says_string : (json : Value) (text : List ℕ) → view json ≡ string text → Says json (quoted text)
+says_string json text is = record { plain = ap has_float is; text_is = ap compact_text is }

@@ -39,4 +39,4 @@ rows_text rows = list_text (map (λ (row : List Value). list_text (map value_tex
 -- the body that gives the rows of an answer, which has these columns and this ticket
 abbrev pub answer_text : List OutColumn → Rows → ℕ → List ℕ
 answer_text columns rows ticket =
-    codes "{\"columns\":" ++ columns_text columns ++ codes ",\"rows\":" ++ rows_text rows ++ codes ",\"ticket\":" ++ decimal ticket ++ codes "}"
+    codes "{\"columns\":" ++ (columns_text columns ++ (codes ",\"rows\":" ++ (rows_text rows ++ (codes ",\"ticket\":" ++ (decimal ticket ++ codes "}")))))

@@ -13,11 +13,11 @@ allow_line status = if status == 405 then codes "allow: GET, POST\r\n" else []
 -- what stands before a body of this size
 abbrev pub head_text : ℕ → ℕ → List ℕ
 head_text status size =
-    codes "HTTP/1.1 " ++ decimal status ++ codes " " ++ phrase status ++ codes "\r\n"
-    ++ codes "content-type: application/json\r\n"
-    ++ codes "content-length: " ++ decimal size ++ codes "\r\n"
-    ++ allow_line status
-    ++ codes "connection: close\r\n\r\n"
+    codes "HTTP/1.1 " ++ (decimal status ++ (codes " " ++ (phrase status ++ (codes "\r\n"
+    ++ (codes "content-type: application/json\r\n"
+    ++ (codes "content-length: " ++ (decimal size ++ (codes "\r\n"
+    ++ (allow_line status
+    ++ codes "connection: close\r\n\r\n")))))))))
 
 -- a reply of this status with this body
 abbrev pub reply_text : ℕ → List ℕ → List ℕ

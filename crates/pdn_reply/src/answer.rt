@@ -36,7 +36,8 @@ fn columns_json(alloc: Global, columns: &[OutColumn]) -> Result<Json, Memory>
 {
     let mut list = Vec::new(alloc);
     for column in columns {
-        list.push(Json::try_from_str(alloc, column.name.as_str())?)?;
+        let json = Json::try_from_str(alloc, column.name.as_str())?;
+        list.push(json)?;
     }
     Ok(Json::Array(list))
 }
@@ -46,7 +47,8 @@ fn rows_json(alloc: Global, rows: &[Row]) -> Result<Json, Memory>
 {
     let mut list = Vec::new(alloc);
     for row in rows {
-        list.push(row_json(alloc, row.values())?)?;
+        let json = row_json(alloc, row.values())?;
+        list.push(json)?;
     }
     Ok(Json::Array(list))
 }
@@ -56,7 +58,8 @@ fn row_json(alloc: Global, row: &[Value]) -> Result<Json, Memory>
 {
     let mut list = Vec::new(alloc);
     for value in row {
-        list.push(value_json(alloc, *value)?)?;
+        let json = value_json(alloc, *value)?;
+        list.push(json)?;
     }
     Ok(Json::Array(list))
 }
