@@ -19,9 +19,8 @@ pub Heads-append : (callers : List Caller) (bytes : List ℕ) (wanted : Want) (r
 Heads-append callers bytes wanted rest more h = record { head = h.head; is = IsHead-append bytes rest more h.head h.is; asks = h.asks }
 
 -- a head has some bytes
-unfolding print_request
-
 print_some : (h : RequestHead) → 0 < length h.method → 0 < length (print_request h)
+unfolding print_request
 print_some h some =
     let tail = space ∷ h.target ++ space ∷ print_version h.minor ++ print_end h.line_end ++ print_section h.fields h.last in
     let inner = length-append h.method tail in

@@ -2,7 +2,7 @@
 use Rattle.std.proofs.Common.{◌≡◌, ◌≢◌, ◌<◌, ◌≤◌, ◌^◌, ◌+◌, ℕ, suc, zero, List, [], ◌∷◌, ◌++◌, length, get_or, None, Some, Bool, true, false, refl, sym, ap, ◌∙◌, subst, arith, codes, ⊎_elim}
 use Rattle.std.proofs.Common.{append_assoc, eq-or-lt_of_le, le_of_suc-le-suc, zero-lt-suc, not-suc-le-zero}
 use mathlib.Core.List.{append_cancel_left}
-use Rattle.std.specs.Prelude.{Option, decimal}
+use Rattle.std.specs.Prelude.{Option, MatchOption, decimal}
 use Rattle.std.specs.List.{slice_get}
 use Rattle.std.specs.Str.{bytes_eq, IsUtf8}
 use Rattle.std.proofs.lemmas.Bool.{false≢true}
@@ -52,6 +52,13 @@ no_number caller path rest behind_it text here next last none n fits is =
     (behind caller behind_it (codes "/queries/" ++ decimal n) rest next
     (behind (codes "/callers/") rest (caller ++ (codes "/queries/" ++ decimal n)) path here is)))
 
+pub number_result : (caller path named behind_it number : List ℕ) → path ≡ codes "/callers/" ++ named → named ≡ caller ++ behind_it
+    → behind_it ≡ codes "/queries/" ++ number → (r : Option ℕ) → MatchOption r ((n : ℕ) → n < 2 ^ 64 → number ≢ decimal n) (λ n. number ≡ decimal n)
+    → MatchOption r ((n : ℕ) → n < 2 ^ 64 → path ≢ call_path caller (decimal n)) (λ n. path ≡ call_path caller (decimal n))
+number_result caller path named behind_it number here next last None none = no_number caller path named behind_it number here next last none
+number_result caller path named behind_it number here next last (Some n) is =
+    spelled caller path named behind_it (decimal n) here next (last ∙ ap (λ text. codes "/queries/" ++ text) is)
+
 -- ---- the number
 
 abbrev pub Parses : List ℕ → Option ℕ → Type 0
@@ -84,6 +91,10 @@ none_before_next callers path at caller known before none call within route =
     (same_Some route.caller caller (sym route.known ∙ ap (slice_get callers) same ∙ known))))
     (λ (less : call.caller < at). before call less route)
     (eq-or-lt_of_le (omega (arith, within)))
+
+pub leads_there : (callers : List Caller) (path : List ℕ) (call : Call) (caller : Caller) → slice_get callers call.caller ≡ Some caller → call.number < 2 ^ 64
+    → path ≡ call_path caller.name (decimal call.number) → Leads callers path (Some call)
+leads_there callers path call caller known fits is = record { caller = caller; known = known; fits = fits; spelled = is }
 
 pub none_of_all : (callers : List Caller) (path : List ℕ) (at : ℕ) → length callers ≤ at → NoneBefore callers path at → Leads callers path None
 none_of_all callers path at all before call route = before call (omega (arith, all, slice_get_within callers call.caller route.caller route.known)) route

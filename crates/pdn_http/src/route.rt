@@ -98,6 +98,7 @@ fn number_at(caller: &[u8], path: &[u8]) -> Option<u64>
 }
 
 /// Where a path leads, that the router found.
+#[tactic(auto, using(crate::proofs::RouteLaws::none_before_next, crate::proofs::RouteLaws::none_of_all, crate::proofs::RouteLaws::leads_there))]
 fn call_at(callers: &[Caller], path: &[u8]) -> Option<Call>
     requires few { length callers.now ≤ 8 }
     ensures { Leads callers.now path.now result }
@@ -112,7 +113,6 @@ fn call_at(callers: &[Caller], path: &[u8]) -> Option<Call>
 }
 
 /// Where the path of a target leads.
-#[tactic(auto, using(crate::proofs::RouteLaws::unfound))]
 pub(crate) fn route_of(router: &Router<()>, callers: &[Caller], target: &str) -> Option<Call>
     requires router { HasRoute router.now }
     requires callers { IsCallers callers.now }

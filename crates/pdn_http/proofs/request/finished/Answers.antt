@@ -14,7 +14,7 @@ returns-in_err-body-in-Post-clause-finished g c = λ callers first came.
     let p = err_from_is_err_and c.from_residual.result c.from_residual.ensures.1 in
     let rest = take_rest c.args.heard.bytes.items c.args.heard.len in
     rw (p.1, p.2) (bodyless callers first (g.L.Link.left c.args.link.now) (g.L.Link.left c.read_body.new.link) c.args.heard c.in-Post.call c.in-Post.size
-    c.in_err-body-in-Post.field-0 came c.in-Post.is (rw (c.deref.ensures.value, rest) at c.in_err-body-in-Post.ensures.came))
+    c.in_err-body-in-Post.field-0.0 came c.in-Post.is (rw (c.deref.ensures.value, rest) at c.in_err-body-in-Post.ensures.came))
 
 pub returns-clause-finished : goal.returns-clause-finished
 returns-clause-finished g c = λ callers first came.
