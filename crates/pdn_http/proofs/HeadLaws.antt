@@ -3,8 +3,7 @@ use Rattle.std.proofs.Common.{◌≡◌, ◌≤◌, ◌<◌, ℕ, List, [], ◌�
 use Rattle.std.proofs.Common.{length-append, take-append-drop, append_assoc}
 use lib.Seq.{take-append_seam, take-append-le}
 use Rattle.httparse.specs.Grammar.{ReadsRequest, RequestHead, print_request, print_blank, print_version, print_end, print_section}
-use Rattle.httparse.specs.Ascii.{space}
-use Rattle.httparse.proofs.GrammarLemmas.{ReadsRequest-append}
+use Rattle.httparse.proofs.GrammarLemmas.{ReadsRequest-append, print_request-append}
 use Rattle.pdn_schema.specs.declared.schema.Caller.{Caller}
 use Rattle.pdn_http.specs.declared.want.Want.{Want}
 use Rattle.pdn_http.specs.Heads.{IsHead, HasNoHead, NeverHasHead}
@@ -18,22 +17,12 @@ pub Heads-append : (callers : List Caller) (bytes : List ℕ) (wanted : Want) (r
     → Heads callers bytes wanted rest → Heads callers (bytes ++ more) wanted (rest ++ more)
 Heads-append callers bytes wanted rest more h = record { head = h.head; is = IsHead-append bytes rest more h.head h.is; asks = h.asks }
 
--- a head has some bytes
-print_some : (h : RequestHead) → 0 < length h.method → 0 < length (print_request h)
-unfolding print_request
-print_some h some =
-    let tail = space ∷ h.target ++ space ∷ print_version h.minor ++ print_end h.line_end ++ print_section h.fields h.last in
-    let inner = length-append h.method tail in
-    let outer = length-append (print_blank h.blank) (h.method ++ tail) in
-    omega (arith, inner, outer, some)
-
 -- no front of no bytes is a head
 pub nothing_has_no_head : HasNoHead []
 nothing_has_no_head h rest is =
-    let some = print_some h is.reads.0.method.0 in
-    let whole = ap length is.reads.1 in
-    let both = length-append (print_request h) rest in
-    omega (arith, some, whole, both)
+    let tail = 32 ∷ (h.target ++ 32 ∷ (print_version h.minor ++ (print_end h.line_end ++ (print_section h.fields h.last ++ rest)))) in
+    let whole : 0 ≡ length (print_blank h.blank ++ (h.method ++ tail)) = ap length (is.reads.1 ∙ print_request-append h rest) in
+    omega (arith, whole, length-append (print_blank h.blank) (h.method ++ tail), length-append h.method tail, is.reads.0.method.0)
 
 -- what stands at the front of two lists and is no longer than the first
 front_within : (xs ys ps qs : List ℕ) → length ps ≤ length xs → xs ++ ys ≡ ps ++ qs → xs ≡ ps ++ drop (length ps) xs

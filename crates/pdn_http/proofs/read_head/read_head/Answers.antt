@@ -1,5 +1,4 @@
 use Rattle.std.proofs.Common.{◌≡◌, true, refl, subst, arith}
-use borrow.Author.Tests.{not-false}
 use Rattle.pdn_http.specs.Heads.{NeverHasHead}
 use Rattle.pdn_http.proofs.OutcomeLaws.{no_head_never}
 use Rattle.pdn_http.proofs.TurnLaws.{consumes_turn, longer}
@@ -8,7 +7,7 @@ use Rattle.pdn_http.proofs.read_head.read_head.Goals as goal
 pub returns-in-Never-clause-came : goal.returns-in-Never-clause-came
 returns-in-Never-clause-came g c =
     let turn = c.in_ok-receive.ensures.received in
-    let some : c.in_ok-receive.field-0 ≡ true = not-false c.in_ok-receive.field-0 c.if-not-branch.false in
+    let some : c.in_ok-receive.field-0 ≡ true = c.if-not-branch.false in
     let grown = longer turn some in (
       refl,
       no_head_never (g.L.Link.left c.args.link.now) (g.L.Link.left c.receive.new.link) c.receive.new.bytes.items
