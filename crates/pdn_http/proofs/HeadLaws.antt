@@ -1,8 +1,8 @@
 -- Heads at the front of bytes, when more bytes come.
-use Rattle.std.proofs.Common.{◌≡◌, ◌≤◌, ◌<◌, ℕ, List, [], ◌∷◌, ◌++◌, length, take, drop, refl, sym, ap, ◌∙◌, subst, arith}
-use Rattle.std.proofs.Common.{length-append, take-append-drop, append_assoc}
+use Rattle.std.proofs.Common.{◌≡◌, ◌≤◌, ℕ, List, [], ◌∷◌, ◌++◌, length, take, drop, sym, ap, ◌∙◌, arith}
+use Rattle.std.proofs.Common.{length-append, take-append-drop}
 use lib.Seq.{take-append_seam, take-append-le}
-use Rattle.httparse.specs.Grammar.{ReadsRequest, RequestHead, print_request, print_blank, print_version, print_end, print_section}
+use Rattle.httparse.specs.Grammar.{RequestHead, print_request, print_blank, print_version, print_end, print_section}
 use Rattle.httparse.proofs.GrammarLemmas.{ReadsRequest-append, print_request-append}
 use Rattle.pdn_schema.specs.declared.schema.Caller.{Caller}
 use Rattle.pdn_http.specs.declared.want.Want.{Want}

@@ -1,12 +1,12 @@
 -- The lines of a head, by their names.
-use Rattle.std.proofs.Common.{◌≡◌, List, [], ◌∷◌, ℕ, Bool, true, false, ◌||◌, refl, sym, ap, ◌∙◌, arith, cond, length, map, take, ◌≤◌, suc}
+use Rattle.std.proofs.Common.{◌≡◌, List, [], ◌∷◌, ℕ, Bool, true, false, ◌||◌, refl, sym, ap, arith, cond, length, map, take, ◌≤◌, suc}
 use Rattle.std.proofs.lemmas.Bool.{false≢true}
 use Rattle.std.proofs.lemmas.List.Elements.{recursion_from_All}
 use Rattle.std.proofs.Common.{length-take}
-use Rattle.std.specs.List.{All, AllByRecursion, filter, list_any}
-use Rattle.std.specs.Prelude.{Result, Err}
+use Rattle.std.specs.List.{AllByRecursion, filter, list_any}
+use Rattle.std.specs.Prelude.{Err}
 use Rattle.httparse.specs.declared.spans.HeaderSpan.{HeaderSpan}
-use Rattle.httparse.specs.Grammar.{RequestHead, Field}
+use Rattle.httparse.specs.Grammar.{RequestHead}
 use Rattle.httparse.specs.Spans.{IsSectionWithin, IsHeaderWithin, AreFieldsAt, header_bytes, name_and_value}
 use Rattle.pdn_http.specs.declared.refusal.Refusal.TheVariants.{Request}
 use Rattle.pdn_http.specs.Heads.{has_name, values_of}

@@ -1,14 +1,14 @@
 -- What the parser's answer says of a connection's bytes.
-use Rattle.std.proofs.Common.{◌≡◌, ◌≤◌, ℕ, List, ◌++◌, length, map, take, drop, refl, sym, ap, ◌∙◌, subst, arith, lt_of_lt_of_le, lt_irrefl}
+use Rattle.std.proofs.Common.{◌≡◌, ◌≤◌, ℕ, List, length, map, take, drop, ap, ◌∙◌, subst, arith, lt_of_lt_of_le, lt_irrefl}
 use Rattle.std.specs.Prelude.{Option}
 use Rattle.httparse.specs.declared.spans.HeaderSpan.{HeaderSpan}
 use Rattle.httparse.specs.declared.spans.RequestSpans.{RequestSpans}
-use Rattle.httparse.specs.Grammar.{RequestHead, HasNoRequest}
+use Rattle.httparse.specs.Grammar.{HasNoRequest}
 use Rattle.httparse.specs.Spans.{IsRequestOf, IsRequestWithin, RequestOverflows, span_bytes, header_bytes}
 use Rattle.pdn_schema.specs.declared.schema.Caller.{Caller}
 use Rattle.pdn_http.specs.declared.call.Call.{Call}
 use Rattle.pdn_http.specs.declared.want.Want.{Want}
-use Rattle.pdn_http.specs.Heads.{IsHead, HasNoHead, NeverHasHead, path_of}
+use Rattle.pdn_http.specs.Heads.{HasNoHead, NeverHasHead, path_of}
 use Rattle.pdn_http.specs.Requests.{Heads, want_of}
 use Rattle.pdn_http.specs.Routes.{Leads}
 use Rattle.pdn_http.proofs.LineLaws.{few_lines}

@@ -1,11 +1,11 @@
 -- The bytes of a connection come to one outcome.
-use Rattle.std.proofs.Common.{◌≡◌, ◌≢◌, ◌<◌, ◌^◌, ℕ, zero, suc, List, [], ◌∷◌, ◌++◌, drop, get_or, map, None, Some, Bool, true, false, refl, sym, ap, ap₂, ◌∙◌, subst, codes, ⊎_elim, inl, inr, arith}
+use Rattle.std.proofs.Common.{◌≡◌, ◌≢◌, ℕ, zero, suc, List, [], ◌∷◌, ◌++◌, drop, get_or, None, Some, false, refl, sym, ap, ap₂, ◌∙◌, subst, codes, inl, inr}
 use Rattle.std.proofs.lemmas.Bool.{false≢true}
 use Rattle.std.proofs.lemmas.Fmt.{decimal_injective}
 use Rattle.std.proofs.lemmas.Option.{none-some, same_Some}
 use Rattle.std.proofs.lemmas.Slice.Eq.{bytes_eq-Decides}
 use Rattle.std.specs.List.{AllByRecursion, IsDistinct, slice_get}
-use Rattle.std.specs.Prelude.{Option, decimal, ◌⊎◌}
+use Rattle.std.specs.Prelude.{Option, decimal}
 use Rattle.std.specs.Str.{bytes_eq}
 use mathlib.Core.List.{append_cancel_left}
 use Rattle.httparse.specs.Grammar.{RequestHead}
@@ -14,9 +14,9 @@ use Rattle.pdn_schema.specs.declared.schema.Caller.{Caller}
 use Rattle.pdn_schema.specs.Schemas.{IsCallers, caller_names}
 use Rattle.pdn_http.specs.declared.call.Call.{Call}
 use Rattle.pdn_http.specs.declared.want.Want.{Want}
-use Rattle.pdn_http.specs.Heads.{IsHead, lines_of, path_of}
+use Rattle.pdn_http.specs.Heads.{lines_of, path_of}
 use Rattle.pdn_http.specs.Requests.{Outcome, Asks, Heads, IsOutcome, want_of, with_rest}
-use Rattle.pdn_http.specs.Routes.{Part, IsPart, IsRoute, Leads, call_path}
+use Rattle.pdn_http.specs.Routes.{Part, IsRoute, Leads, call_path}
 use Rattle.pdn_http.proofs.PathLaws.{name_part_of}
 use Rattle.pdn_http.proofs.RouteLaws.{caller_at}
 

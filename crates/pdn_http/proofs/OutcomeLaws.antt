@@ -13,7 +13,7 @@ use Rattle.pdn_http.specs.declared.refusal.Refusal.TheVariants.{Request}
 use Rattle.pdn_http.specs.declared.want.Want.{Want}
 use Rattle.pdn_http.specs.declared.want.Want.TheVariants as want
 use Rattle.pdn_http.specs.Heads.{HasNoHead, NeverHasHead}
-use Rattle.pdn_http.specs.Requests.{Outcome, Silent, Refused, Get, Post, with_rest, with_body, Heads, IsOutcome}
+use Rattle.pdn_http.specs.Requests.{Silent, Refused, Get, Post, with_rest, with_body, Heads, IsOutcome}
 use Rattle.pdn_http.specs.Receiving.{AreAll, HeadCame, NoHeadCame, WhyNoHead, BodyCame, BodyEnded, WhyNoBody, ComesTo, NotRequested, IsFault, ended_with}
 use Rattle.pdn_http.specs.declared.request.NoRequest.{NoRequest}
 use Rattle.pdn_http.specs.declared.request.NoRequest.TheVariants as none_for

@@ -1,11 +1,11 @@
 -- The paths that the router of the one route finds.
-use Rattle.std.proofs.Common.{◌≡◌, ◌≢◌, List, [], ◌∷◌, ◌++◌, ℕ, zero, suc, ◌+◌, ◌-◌, ◌<◌, ◌≤◌, ◌^◌, Bool, true, false, length, Some, None, refl, sym, ap, ◌∙◌, subst, rules, arith, cond, eqb, ltb, ne_eqb, eq-eqb, codes, drop, length-append, lt_irrefl, mod-lt, ◌%◌}
+use Rattle.std.proofs.Common.{◌≡◌, ◌≢◌, List, [], ◌∷◌, ◌++◌, ℕ, zero, suc, ◌+◌, ◌-◌, ◌<◌, ◌^◌, Bool, true, false, length, Some, None, refl, ap, ◌∙◌, rules, arith, cond, ltb, ne_eqb, eq-eqb, codes, drop, length-append, lt_irrefl, mod-lt, ◌%◌}
 use Rattle.std.proofs.Math.Seq.{drop-append_seam}
-use Rattle.std.specs.Prelude.{Option, ◌==◌, ◌&&◌, decimal}
+use Rattle.std.specs.Prelude.{Option, ◌==◌, decimal}
 use native.Mathlib.Numerals.{unary_clauses}
 use Rattle.std.proofs.lemmas.Bool.Decides.{nat_tests}
-use Rattle.matchit.specs.Rows.{RowsOf, param_token, catch_all_token}
-use Rattle.matchit.specs.Seek.{first, seek, own, step, or_else, param_step, has_slash, segment, slash, longest_suffix, with_suffix, cuts, better, same_text}
+use Rattle.matchit.specs.Rows.{RowsOf, param_token}
+use Rattle.matchit.specs.Seek.{first, seek, own, or_else, param_step, has_slash, segment}
 use Rattle.std.proofs.lemmas.Fmt.{decimal_by_steps}
 use borrow.Author.Tests.{ltb-true}
 use Rattle.pdn_schema.specs.Names.{is_name, is_name_byte, all_name_bytes}

@@ -1,6 +1,6 @@
 -- Where paths lead.
-use Rattle.std.proofs.Common.{◌≡◌, ◌≢◌, ◌<◌, ◌≤◌, ◌^◌, ◌+◌, ℕ, suc, zero, List, [], ◌∷◌, ◌++◌, length, get_or, None, Some, Bool, true, false, refl, sym, ap, ◌∙◌, subst, arith, codes, ⊎_elim}
-use Rattle.std.proofs.Common.{append_assoc, eq-or-lt_of_le, le_of_suc-le-suc, zero-lt-suc, not-suc-le-zero}
+use Rattle.std.proofs.Common.{◌≡◌, ◌≢◌, ◌<◌, ◌≤◌, ◌^◌, ◌+◌, ℕ, suc, zero, List, [], ◌∷◌, ◌++◌, length, None, Some, true, false, sym, ap, ◌∙◌, subst, arith, codes, ⊎_elim}
+use Rattle.std.proofs.Common.{eq-or-lt_of_le}
 use mathlib.Core.List.{append_cancel_left}
 use Rattle.std.specs.Prelude.{Option, MatchOption, decimal}
 use Rattle.std.specs.List.{slice_get}

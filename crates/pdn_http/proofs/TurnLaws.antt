@@ -1,5 +1,5 @@
 -- Turns of receiving, one after the other.
-use Rattle.std.proofs.Common.{◌≡◌, ◌≤◌, ◌<◌, ◌-◌, ◌+◌, ℕ, List, [], ◌++◌, min, length, take, drop, true, false, Bool, refl, sym, ap, ◌∙◌, subst, arith, ⊎_elim}
+use Rattle.std.proofs.Common.{◌≡◌, ◌≤◌, ◌<◌, ◌+◌, ℕ, List, [], ◌++◌, min, length, take, true, false, Bool, sym, ap, ◌∙◌, subst, arith, ⊎_elim}
 use Rattle.std.proofs.Common.{append_assoc, append-nil, length-append, length-take, take_all}
 use lib.Seq.{take-append-le}
 use Rattle.std.proofs.lemmas.Bool.{cases_lt}

@@ -1,9 +1,7 @@
 -- What was received of a connection so far.
-use Rattle.std.specs.Prelude.{◌≡◌, ◌<◌, ◌≤◌, ℕ, Bool, true, false, List, [], ◌∷◌, ◌++◌, length, take, drop, Option, None, Some, Result, Ok, Err, ⊤}
+use Rattle.std.specs.Prelude.{◌≡◌, ◌<◌, ◌≤◌, ℕ, Bool, true, false, List, [], ◌∷◌, ◌++◌, length, take, drop, Option, None, Some, ⊤}
 use Rattle.std.specs.Io.KnownBytes.{Consumes, IsAtEnd}
 use Rattle.pdn_schema.specs.declared.schema.Caller.{Caller}
-use Rattle.pdn_http.specs.declared.call.Call.{Call}
-use Rattle.pdn_http.specs.declared.refusal.Refusal.{Refusal}
 use Rattle.pdn_http.specs.declared.refusal.Refusal.TheVariants.{Request}
 use Rattle.pdn_http.specs.declared.request.NoRequest.{NoRequest}
 use Rattle.pdn_http.specs.declared.request.NoRequest.TheVariants as none_for

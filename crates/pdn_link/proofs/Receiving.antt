@@ -1,5 +1,5 @@
 -- What a link in memory gives and loses.
-use Rattle.std.proofs.Common.{◌≡◌, ◌<◌, ◌≤◌, ◌+◌, ◌-◌, ℕ, List, [], ◌++◌, min, length, take, drop, refl, sym, ap, ◌∙◌, arith}
+use Rattle.std.proofs.Common.{◌≡◌, ◌<◌, ◌≤◌, ◌+◌, ℕ, List, [], ◌++◌, min, length, take, drop, sym, ap, ◌∙◌, arith}
 use Rattle.std.proofs.Common.{length-take, length-drop, length-append, take-append-drop, take_at, drop-drop}
 use Rattle.std.proofs.lemmas.List.{drop_all}
 

@@ -1,4 +1,4 @@
-use Rattle.std.proofs.Common.{sym, subst, ap, ◌∙◌}
+use Rattle.std.proofs.Common.{sym, subst}
 use Rattle.std.specs.Str.{IsUtf8}
 use Rattle.pdn_reply.proofs.CodeTexts.{code_is_text, reads_text}
 use Rattle.pdn_reply.proofs.answer.code_json.Goals as goal

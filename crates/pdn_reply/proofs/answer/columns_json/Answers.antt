@@ -1,8 +1,7 @@
-use Rattle.std.proofs.Common.{List, map, take_all, ap, ◌∙◌, subst}
+use Rattle.std.proofs.Common.{take_all, ap, ◌∙◌}
 use Rattle.serde_json.specs.Data.{string}
 use Rattle.json.specs.Print.{quoted}
 use Rattle.pdn_tree.specs.declared.plan.OutColumn.{OutColumn}
-use Rattle.pdn_reply.specs.Values.{Says}
 use Rattle.pdn_reply.proofs.ListLaws.{say_next, says_list, says_string}
 use Rattle.pdn_reply.proofs.answer.columns_json.Goals as goal
 

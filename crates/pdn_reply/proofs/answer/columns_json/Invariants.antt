@@ -1,4 +1,4 @@
-use Rattle.std.proofs.Common.{List, map, take}
+use Rattle.std.proofs.Common.{map, take}
 use Rattle.json.specs.Print.{quoted}
 use Rattle.pdn_tree.specs.declared.plan.OutColumn.{OutColumn}
 use Rattle.pdn_reply.specs.Values.{SayEach}

@@ -1,6 +1,6 @@
-use Rattle.std.proofs.Common.{◌≡◌, ap, ◌∙◌, codes, false, rules, refl, ◌++◌, decimal}
+use Rattle.std.proofs.Common.{◌≡◌, ap, ◌∙◌, codes, false, rules, refl}
 use Rattle.std.proofs.lemmas.Result.{IfOk-weaker}
-use Rattle.serde_json.specs.Data.{Data, object, number, unsigned, member, no_members}
+use Rattle.serde_json.specs.Data.{object, number, unsigned, member, no_members}
 use Rattle.serde_json.specs.View.{view}
 use Rattle.serde_json.specs.Written.{has_float, compact_text}
 use Rattle.serde_json.proofs.OnLiterals.{serde_json_on_literals}

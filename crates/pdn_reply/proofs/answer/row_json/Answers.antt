@@ -1,8 +1,6 @@
-use Rattle.std.proofs.Common.{List, map, take_all, ap, ◌∙◌, subst}
-use Rattle.serde_json.specs.Data.{string}
+use Rattle.std.proofs.Common.{take_all}
 use Rattle.pdn_reply.specs.Bodies.{value_text}
-use Rattle.pdn_reply.specs.Values.{Says}
-use Rattle.pdn_reply.proofs.ListLaws.{say_next, says_list, says_string}
+use Rattle.pdn_reply.proofs.ListLaws.{say_next, says_list}
 use Rattle.pdn_reply.proofs.answer.row_json.Goals as goal
 
 pub loop-value-preserved : goal.loop-value-preserved

@@ -1,4 +1,4 @@
-use Rattle.std.proofs.Common.{List, map, take}
+use Rattle.std.proofs.Common.{map, take}
 use Rattle.pdn_reply.specs.Bodies.{value_text}
 use Rattle.pdn_reply.specs.Values.{SayEach}
 use Rattle.pdn_reply.proofs.answer.row_json.Given as goal

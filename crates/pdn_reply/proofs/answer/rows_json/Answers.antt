@@ -1,9 +1,8 @@
-use Rattle.std.proofs.Common.{List, map, take_all, ap, ◌∙◌, subst}
-use Rattle.serde_json.specs.Data.{string}
+use Rattle.std.proofs.Common.{List, map, take_all, subst}
 use Rattle.pdn_base.specs.declared.value.Value.{Value}
 use Rattle.pdn_reply.specs.Bodies.{list_text, value_text}
 use Rattle.pdn_reply.specs.Values.{Says}
-use Rattle.pdn_reply.proofs.ListLaws.{say_next, says_list, says_string}
+use Rattle.pdn_reply.proofs.ListLaws.{say_next, says_list}
 use Rattle.pdn_reply.proofs.answer.rows_json.Goals as goal
 
 pub loop-row-preserved : goal.loop-row-preserved

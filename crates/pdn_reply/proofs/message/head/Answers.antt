@@ -1,4 +1,3 @@
-use Rattle.std.proofs.Common.{rules}
 use Rattle.pdn_reply.proofs.message.head.Goals as goal
 
 pub returns : goal.returns

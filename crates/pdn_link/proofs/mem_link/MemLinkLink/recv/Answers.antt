@@ -1,4 +1,3 @@
-use Rattle.std.proofs.Common.{◌≡◌, ◌++◌, take, drop}
 use Rattle.std.proofs.lemmas.List.{take_rest}
 use Rattle.pdn_link.proofs.Receiving.{receives}
 use Rattle.pdn_link.proofs.mem_link.MemLinkLink.recv.Goals as goal
