@@ -3,3 +3,4 @@ pub mod Routes
 pub mod Requests
 pub mod Fronts
 pub mod Receiving
+pub mod Refusals

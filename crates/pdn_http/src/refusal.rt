@@ -1,4 +1,6 @@
 //! Why a request is refused.
+ghost use Rattle.std.specs.Prelude.{◌≡◌};
+ghost use Rattle.pdn_http.specs.Refusals.{error_of, status_of};
 
 /// Why a request is refused, before anything is looked up for it. The statuses are those of RFC
 /// 9110.
@@ -16,4 +18,34 @@ pub enum Refusal {
     Length,
     /// 413: the body is longer than 4096 bytes.
     Long,
+}
+
+impl Refusal {
+    /// The status of its reply.
+    pub fn status(&self) -> u16
+        ensures { result ≡ status_of self.now }
+    {
+        match self {
+            Refusal::Request => 400,
+            Refusal::Encoding => 501,
+            Refusal::Unknown => 404,
+            Refusal::Method => 405,
+            Refusal::Length => 411,
+            Refusal::Long => 413,
+        }
+    }
+
+    /// The error that its reply names.
+    pub fn error(&self) -> &'static str
+        ensures { result.now ≡ error_of self.now }
+    {
+        match self {
+            Refusal::Request => "request",
+            Refusal::Encoding => "encoding",
+            Refusal::Unknown => "unknown",
+            Refusal::Method => "method",
+            Refusal::Length => "length",
+            Refusal::Long => "long",
+        }
+    }
 }

@@ -1,5 +1,5 @@
 //! What a connection's bytes come to, as a text.
-use pdn_http::{NoRequest, Refusal, Request, read_request};
+use pdn_http::{NoRequest, Request, read_request};
 use pdn_link::{Link, MemLink};
 use pdn_schema::{Schema, read_schema};
 use std::alloc::Global;
@@ -11,17 +11,6 @@ const SCHEMA: &[u8] = b"version 1\nfloor 3\ncaller ann calls 2\ncaller bo calls 
 /// A schema with the callers ann and bo.
 pub fn schema(alloc: Global) -> Result<Schema, Fail> {
     Ok(read_schema(alloc, SCHEMA).ok().ok_or("it is a schema")?)
-}
-
-fn refused(refusal: Refusal) -> &'static str {
-    match refusal {
-        Refusal::Request => "request",
-        Refusal::Encoding => "encoding",
-        Refusal::Unknown => "unknown",
-        Refusal::Method => "method",
-        Refusal::Length => "length",
-        Refusal::Long => "long",
-    }
 }
 
 /// What is read of a link, as a text.
@@ -41,8 +30,8 @@ pub fn read<L: Link>(alloc: Global, link: &mut L) -> Result<String, Fail> {
         Err(NoRequest::Unread) => Ok(format!(in alloc; "unread")?),
         Err(NoRequest::Memory) => Ok(format!(in alloc; "memory")?),
         Err(NoRequest::Refused(refusal)) => {
-            let refusal = refused(refusal);
-            Ok(format!(in alloc; "{refusal}")?)
+            let (status, error) = (refusal.status(), refusal.error());
+            Ok(format!(in alloc; "{status} {error}")?)
         }
     }
 }

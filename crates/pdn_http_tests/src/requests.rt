@@ -25,64 +25,82 @@ const CASES: &[(&str, &str)] = &[
         "\r\n\nPOST /callers/ann/queries/0 HTTP/1.1\nHOST: a\ncontent-length: 0\n\n",
         "post 0 0 ",
     ),
-    ("GET /callers/ann/queries/7 HTTP/2.0\r\n\r\n", "request"),
-    ("GET /callers/ann/queries/7 HTTP/1.1\r\na: b", "request"),
-    ("GET /callers/\0/queries/7 HTTP/1.1\r\n\r\n", "request"),
+    ("GET /callers/ann/queries/7 HTTP/2.0\r\n\r\n", "400 request"),
+    ("GET /callers/ann/queries/7 HTTP/1.1\r\na: b", "400 request"),
+    ("GET /callers/\0/queries/7 HTTP/1.1\r\n\r\n", "400 request"),
     (
         "GET /callers/ann/queries/7 HTTP/1.1\r\na\0: b\r\n\r\n",
-        "request",
+        "400 request",
     ),
-    ("GET /callers/\u{e9}/queries/7 HTTP/1.1\r\n\r\n", "unknown"),
+    (
+        "GET /callers/\u{e9}/queries/7 HTTP/1.1\r\n\r\n",
+        "404 unknown",
+    ),
     (
         "PUT /callers/bob/queries/1 HTTP/1.1\r\nTransfer-Encoding: chunked\r\n\r\n",
-        "encoding",
+        "501 encoding",
     ),
     (
         "POST /callers/ann/queries/1 HTTP/1.1\r\ntransfer-encoding: identity\r\ncontent-length: 3\r\n\r\nabc",
-        "encoding",
+        "501 encoding",
     ),
-    ("POST /callers/bob/queries/1 HTTP/1.1\r\n\r\n", "unknown"),
+    (
+        "POST /callers/bob/queries/1 HTTP/1.1\r\n\r\n",
+        "404 unknown",
+    ),
     (
         "GET http://desk/callers/ann/queries/7 HTTP/1.1\r\n\r\n",
-        "unknown",
+        "404 unknown",
     ),
-    ("GET /callers/ann/queries/ HTTP/1.1\r\n\r\n", "unknown"),
-    ("GET /callers/ann/queries/7/ HTTP/1.1\r\n\r\n", "unknown"),
-    ("GET /callers//queries/7 HTTP/1.1\r\n\r\n", "unknown"),
-    ("GET /callers/ann/queries/07 HTTP/1.1\r\n\r\n", "unknown"),
-    ("GET /callers/ann/queries/+7 HTTP/1.1\r\n\r\n", "unknown"),
-    ("GET /callers/ann/queries/%37 HTTP/1.1\r\n\r\n", "unknown"),
+    ("GET /callers/ann/queries/ HTTP/1.1\r\n\r\n", "404 unknown"),
+    (
+        "GET /callers/ann/queries/7/ HTTP/1.1\r\n\r\n",
+        "404 unknown",
+    ),
+    ("GET /callers//queries/7 HTTP/1.1\r\n\r\n", "404 unknown"),
+    (
+        "GET /callers/ann/queries/07 HTTP/1.1\r\n\r\n",
+        "404 unknown",
+    ),
+    (
+        "GET /callers/ann/queries/+7 HTTP/1.1\r\n\r\n",
+        "404 unknown",
+    ),
+    (
+        "GET /callers/ann/queries/%37 HTTP/1.1\r\n\r\n",
+        "404 unknown",
+    ),
     (
         "GET /callers/ann/queries/18446744073709551616 HTTP/1.1\r\n\r\n",
-        "unknown",
+        "404 unknown",
     ),
-    ("PUT /callers/ann/queries/1 HTTP/1.1\r\n\r\n", "method"),
-    ("HEAD /callers/ann/queries/1 HTTP/1.1\r\n\r\n", "method"),
-    ("get /callers/ann/queries/1 HTTP/1.1\r\n\r\n", "method"),
-    ("POST /callers/ann/queries/1 HTTP/1.1\r\n\r\n", "length"),
+    ("PUT /callers/ann/queries/1 HTTP/1.1\r\n\r\n", "405 method"),
+    ("HEAD /callers/ann/queries/1 HTTP/1.1\r\n\r\n", "405 method"),
+    ("get /callers/ann/queries/1 HTTP/1.1\r\n\r\n", "405 method"),
+    ("POST /callers/ann/queries/1 HTTP/1.1\r\n\r\n", "411 length"),
     (
         "POST /callers/ann/queries/1 HTTP/1.1\r\ncontent-length: 3\r\nContent-length: 3\r\n\r\nabc",
-        "request",
+        "400 request",
     ),
     (
         "GET /callers/ann/queries/1 HTTP/1.1\r\ncontent-length: 3\r\ncontent-length: 3\r\n\r\n",
-        "request",
+        "400 request",
     ),
     (
         "GET /callers/ann/queries/1 HTTP/1.1\r\ncontent-length: \r\n\r\n",
-        "request",
+        "400 request",
     ),
     (
         "POST /callers/ann/queries/1 HTTP/1.1\r\ncontent-length: 3a\r\n\r\nabc",
-        "request",
+        "400 request",
     ),
     (
         "POST /callers/ann/queries/1 HTTP/1.1\r\ncontent-length: -3\r\n\r\nabc",
-        "request",
+        "400 request",
     ),
     (
         "POST /callers/ann/queries/1 HTTP/1.1\r\ncontent-length: 00000000003\r\n\r\nabc",
-        "request",
+        "400 request",
     ),
     (
         "POST /callers/ann/queries/1 HTTP/1.1\r\ncontent-length: 0000000003\r\n\r\nabc",
@@ -90,15 +108,15 @@ const CASES: &[(&str, &str)] = &[
     ),
     (
         "POST /callers/ann/queries/1 HTTP/1.1\r\ncontent-length: 4097\r\n\r\n",
-        "long",
+        "413 long",
     ),
     (
         "GET /callers/ann/queries/1 HTTP/1.1\r\ncontent-length: 9999999999\r\n\r\n",
-        "long",
+        "413 long",
     ),
     (
         "POST /callers/ann/queries/1 HTTP/1.1\r\ncontent-length: 4096\r\n\r\nabc",
-        "request",
+        "400 request",
     ),
 ];
 
@@ -115,7 +133,7 @@ fn each_row_of_the_table(rt: HostRuntime) -> Result<(), Fail> {
 fn each_front_of_a_request_is_no_request(rt: HostRuntime) -> Result<(), Fail> {
     for size in 1..POST.len() {
         let came = outcome(rt.alloc(), &POST.as_bytes()[..size])?;
-        assert_eq!(rt; came.as_str(), "request");
+        assert_eq!(rt; came.as_str(), "400 request");
     }
     Ok(())
 }
@@ -139,9 +157,9 @@ fn the_bounds_of_a_head(rt: HostRuntime) -> Result<(), Fail> {
     // 37 bytes of the first line, 3 of the last one's name, and 4 of two line ends
     for (lines, size, wanted) in [
         (63, 1, "get 0 7"),
-        (64, 1, "request"),
+        (64, 1, "400 request"),
         (0, 8192 - 44, "get 0 7"),
-        (0, 8193 - 44, "request"),
+        (0, 8193 - 44, "400 request"),
     ] {
         let text = with_lines(rt.alloc(), lines, size)?;
         let came = outcome(rt.alloc(), text.as_bytes())?;
@@ -171,6 +189,6 @@ fn a_link_that_fails_is_unread(rt: HostRuntime) -> Result<(), Fail> {
 #[test]
 fn a_target_that_is_no_text_is_no_request(rt: HostRuntime) -> Result<(), Fail> {
     let came = outcome(rt.alloc(), b"GET /callers/\xff/queries/7 HTTP/1.1\r\n\r\n")?;
-    assert_eq!(rt; came.as_str(), "request");
+    assert_eq!(rt; came.as_str(), "400 request");
     Ok(())
 }
