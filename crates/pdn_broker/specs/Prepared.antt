@@ -109,6 +109,13 @@ pub record AreEngines (schema : SchemaModel) (root : Node) (rows_a rows_b : List
   pub is_a : IsEngine a
   pub is_b : IsEngine b
 
+-- why there are no engines: the first table of A, or else of B, that isn't valid
+abbrev pub AreNoEngines : SchemaModel → List Rows → List Rows → PrepareErr → Type 0
+AreNoEngines schema a b (err.Rows A table cause) = IsFirstRefused schema a table cause
+AreNoEngines schema a b (err.Rows B table cause) = AreValid schema a × IsFirstRefused schema b table cause
+AreNoEngines schema a b (err.TooLarge limit unit) = ⊥
+AreNoEngines schema a b err.Memory = Unit {0}
+
 -- the units over valid tables are refused, by the limit that is passed first
 abbrev pub AreTooLarge : SchemaModel → Node → List Rows → List Rows → PrepareErr → Type 0
 AreTooLarge schema root a b (err.Rows site table cause) = ⊥

@@ -67,6 +67,10 @@ runs_of p tape ticket = secure_runs p tape ticket ++ root_run p tape ticket ∷ 
 abbrev pub AreRuns : PreparedModel → ℕ → List Run → Type 0
 AreRuns p ticket runs = (tape : Tape) × (runs ≡ runs_of p tape ticket)
 
+-- the root's run, on some tape
+abbrev pub IsRootRun : PreparedModel → ℕ → Run → Type 0
+IsRootRun p ticket run = (tape : Tape) × (run ≡ root_run p tape ticket)
+
 -- ---- what the root opens
 
 -- the words that the root's two outputs come to, and the rows that they hold

@@ -14,8 +14,8 @@ ghost use Rattle.pdn_broker.specs.Running.{
   root_run,
   runs_of,
   AreRuns,
+  IsRootRun,
   opened_list,
-  Opens,
 };
 ghost use Rattle.pdn_broker.specs.Answered.{IsAnswered};
 
@@ -128,10 +128,12 @@ fn root_run<D: Deal>(
 }
 
 /// The rows that the root's two outputs come to, in the query's order.
-fn rows_of(alloc: Global, prepared: &Prepared, run: &UnitRun) -> Result<Rows, Memory>
-    requires { Opens prepared.now run.now }
-    ensures { IfOk result (λ rows.
+fn rows_of(alloc: Global, prepared: &Prepared, ticket: u64, run: &UnitRun) -> Result<Rows, Memory>
+    requires { IsRootRun prepared.now ticket run.now }
+    ensures are { IfOk result (λ rows.
         rows ≡ listed prepared.now.order (opened_list prepared.now run.now)) }
+    ensures mean { IfOk result (λ rows. rows
+        ≡ mean (union prepared.now.a.tables prepared.now.b.tables) prepared.now.a.root) }
 {
     let root = unit_at(&prepared.units, prepared.units() - 1);
     opened_rows(
@@ -199,7 +201,7 @@ fn answer_on(
         → IsAnswered prepared.now tape ticket answered) }
 {
     let root = last_run(runs.as_slice());
-    let rows = rows_of(alloc, prepared, root)?;
+    let rows = rows_of(alloc, prepared, ticket, root)?;
     let view_broker = broker_view(alloc, prepared, ticket, root)?;
     let view_a = site_view(alloc, prepared, Site::A, ticket, runs.as_slice())?;
     let view_b = site_view(alloc, prepared, Site::B, ticket, runs.as_slice())?;

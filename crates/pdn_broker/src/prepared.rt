@@ -106,7 +106,8 @@ impl Prepared {
 
     /// The sections that are dealt for a ticket: one for each secure unit and for the root, in unit order. Memory is the only error.
     pub fn dealt_sections(&self, alloc: Global, ticket: u64) -> Result<Vec<Dealt>, Memory>
-        ensures { IfOk result (λ dealt. dealt.items ≡ dealt_of ticket self.now.units) }
+        ensures are { IfOk result (λ dealt. dealt.items ≡ dealt_of ticket self.now.units) }
+        ensures kept { IsPrepared self.now }
     {
         dealt_sections(alloc, &self.units, ticket)
     }
