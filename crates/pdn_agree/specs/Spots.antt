@@ -5,6 +5,7 @@ use Rattle.pdn_schema.specs.Models.{SchemaModel}
 use Rattle.pdn_level.specs.declared.staged.Leaf.{Leaf}
 use Rattle.pdn_level.specs.Cutting.{IsPublicLeaf}
 use Rattle.pdn_site.specs.Directories.{traced_by}
+use Rattle.pdn_agree.specs.declared.spot.Spot.{Spot}
 use Rattle.pdn_agree.specs.Agreement.{SameValues, SamePublic}
 
 -- in schema order: by table, and in a table by column
@@ -19,3 +20,7 @@ pub record IsFirstSpot (s : SchemaModel) (first second : List Rows) (spot : Leaf
 abbrev pub IsSpot : SchemaModel → List Rows → List Rows → Option Leaf → Type 0
 IsSpot s first second None = SamePublic s first second
 IsSpot s first second (Some spot) = IsFirstSpot s first second spot
+
+-- a place as the leaf that is traced to it
+abbrev pub as_leaf : Spot → Leaf
+as_leaf spot = record { table = spot.table; column = spot.column }

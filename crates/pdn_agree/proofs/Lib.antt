@@ -1,0 +1,4 @@
+pub mod Strictly
+pub mod SameValues
+pub mod Shapes
+pub mod SpotLaws
