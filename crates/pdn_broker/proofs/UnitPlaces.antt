@@ -5,6 +5,7 @@ use Rattle.std.specs.List.{All, flat_map, range_with_len}
 use Rattle.std.proofs.lemmas.List.{get_or_at, get_or_append_left, map-append, length-map}
 use Rattle.std.proofs.lemmas.Bool.{cases_lt}
 use Rattle.std.proofs.lemmas.List.Elements.{All-nil, All-cons, All-append, All-get_or, filter-append}
+use Rattle.pdn_base.specs.declared.site.Site.{Site}
 use Rattle.pdn_base.specs.declared.site.Site.TheVariants.{A, B}
 use Rattle.pdn_base.specs.declared.value.Value.{Value}
 use Rattle.pdn_base.specs.Operators.{Rows}
@@ -34,10 +35,16 @@ use Rattle.pdn_broker.proofs.PreparedLaws.{mapped_more, secure_is_some, secure_k
 abbrev IsBefore : UnitModel → Type 0
 IsBefore unit = unit.kind ≡ Root → ⊥
 
+secure_is_not_root : ◌≡◌ {A = UnitKind} Secure Root → ⊥
+secure_is_not_root e = cc
+
+plain_is_not_root : (site : Site) → ◌≡◌ {A = UnitKind} (Plain site) Root → ⊥
+plain_is_not_root site e = cc
+
 not_root_by : (here there : Bool) → ◌≡◌ {A = UnitKind} (cond here (cond there Secure (Plain A)) (Plain B)) Root → ⊥
-not_root_by true true e = cc
-not_root_by true false e = cc
-not_root_by false there e = cc
+not_root_by true true e = secure_is_not_root e
+not_root_by true false e = plain_is_not_root A e
+not_root_by false there e = plain_is_not_root B e
 
 shape_before : (schema : SchemaModel) (top : Node) (i : ℕ) (v : Value) (k : UnitKind) → (k ≡ Root → ⊥) → IsBefore (made (shape_by schema top (slice_column schema top) i v k))
 shape_before schema top i v (Plain site) h e = h e

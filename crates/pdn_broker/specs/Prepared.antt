@@ -17,6 +17,7 @@ use Rattle.pdn_site.specs.Compiling.{compiled}
 use Rattle.pdn_site.specs.Engines.{EngineModel, IsEngine, IsFirstRefused}
 use Rattle.pdn_site.specs.Meaning.{AreTables, numbers_fit}
 use Rattle.pdn_site.specs.NetMeaning.{site_dirs}
+use Rattle.pdn_agree.specs.Agreement.{Union, Agree}
 use Rattle.pdn_broker.specs.declared.preparing.PrepareErr.{PrepareErr}
 use Rattle.pdn_broker.specs.declared.preparing.PrepareErr.TheVariants as err
 use Rattle.pdn_broker.specs.Runs.{Both}
@@ -88,6 +89,10 @@ IsNotPrepared schema root a b (err.Rows B table cause) = AreValid schema a × Is
 IsNotPrepared schema root a b (err.TooLarge limit unit) =
     AreValid schema a × AreValid schema b × (compiled schema root (segments_of schema root []) (site_dirs a b (segments_of schema root [])) ≡ Err (limit, unit))
 IsNotPrepared schema root a b err.Memory = Unit {0}
+
+-- refused for the same cause over every union that a site can't tell apart from this one
+abbrev pub IsRefusedAlike : SchemaModel → Node → List Rows → List Rows → PrepareErr → Type 0
+IsRefusedAlike schema root a b e = (site : Site) (other : Union) → Agree site schema (record { a = a; b = b }) other → IsNotPrepared schema root other.a other.b e
 
 -- why a site has no engine
 abbrev pub IsRefusedAt : Site → SchemaModel → List Rows → PrepareErr → Type 0
