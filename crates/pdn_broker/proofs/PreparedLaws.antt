@@ -210,7 +210,7 @@ module _ (p : PreparedModel) (is : IsPrepared p) where
       (subst (λ (own : Both). Takes fits.net own nothing_given) (sym (own_same (unit_at p u))) (record { own_a = fits.takes.a; own_b = fits.takes.b; given_a = fits.takes.given; given_b = fits.takes.given }))
 
   -- ---- the root
-  tells : UnitsTell schema p.a.tables p.b.tables root p.units
+  pub tells : UnitsTell schema p.a.tables p.b.tables root p.units
   tells = compiled_tell schema p.a.tables p.b.tables root is.sound is.numbers p.units is.units is.stand
 
   pub some_units : 0 < length p.units

@@ -29,7 +29,7 @@ valid_not_refused t rows (WrongType row column) valid refused =
     refused.here.here (ap (λ (ks : List Kind). slice_get ks column) (All-get_or (HasKinds t.columns) rows row [] refused.within valid.kinds))
 valid_not_refused t rows TooMany valid refused = omega (arith, refused.1, valid.few)
 valid_not_refused t rows (PerValue column) valid refused =
-    let over = refused.1.1 in
+    let over = refused.2 in
     omega (arith, over.over, valid.per column over.column over.is over.public over.number)
 
 none_refused : (schema : SchemaModel) (tables : List Rows) (table : ℕ) (cause : RowsErr) → AreValid schema tables → IsFirstRefused schema tables table cause → ⊥
@@ -57,3 +57,7 @@ too_large_alike schema root a b ea eb e sound en h =
 pub memory_alike : {X : Type 0} (schema : SchemaModel) (root : Node) (a b : List Rows) (result : Result X PrepareErr) → IsErrAnd result (λ e. e ≡ err.Memory) → IfErr result (IsRefusedAlike schema root a b)
 memory_alike schema root a b (Ok x) h = absurd h
 memory_alike schema root a b (Err e) h = subst (IsRefusedAlike schema root a b) (sym h) (λ site other agree. tt)
+
+pub error_alike : {X : Type 0} (schema : SchemaModel) (root : Node) (a b : List Rows) (result : Result X PrepareErr) (cause : PrepareErr) → IsErrAnd result (λ e. e ≡ cause) → IsRefusedAlike schema root a b cause → IfErr result (IsRefusedAlike schema root a b)
+error_alike schema root a b (Ok x) cause h alike = absurd h
+error_alike schema root a b (Err e) cause h alike = subst (IsRefusedAlike schema root a b) (sym h) alike

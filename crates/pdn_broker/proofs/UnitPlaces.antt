@@ -109,7 +109,7 @@ stands_by test units k e zero =
 stands_by test units k e (suc d) =
     let before = stands_by test units k e d in
     let next : k + 1 + d + 1 ≡ k + 1 + suc d = omega arith in
-    let more : List ℕ = cond (test (get_or units (k + 1 + d) no_unit).kind) (k + 1 + d ∷ []) [] in
+    let more : List ℕ = cond (test (get_or units (k + 1 + d) no_unit).kind) ((k + 1 + d) ∷ []) [] in
     record {
       rest = before.rest ++ more;
       are = subst (λ n. numbers_upto test units n ≡ numbers_upto test units k ++ k ∷ (before.rest ++ more)) next
