@@ -6,8 +6,9 @@ ghost use Rattle.pdn_dealer.specs.Tapes.{list_tape};
 
 use crate::plans::{schema_of, sound_plan};
 use pdn_base::{Code, Memory, Row, Rows, Tables, Value, Word};
-use pdn_broker::{Answered, Prepared, answer, prepare};
+use pdn_broker::{Answered, Dealt, Prepared, Watch, answer, prepare};
 use pdn_dealer::{Deal, ListDeal, Section};
+use pdn_gmw::UnitRun;
 use std::alloc::Global;
 use std::sync::atomic::{AtomicU64, Ordering};
 use std::test::Fail;
@@ -53,24 +54,34 @@ const OF_B: [Diagnosis; 12] = [
     (12, true, 5),
 ];
 
-/// A tape of zeros that counts how often a section is asked for: of each of the first 13 units of ticket 7, and of any other.
+/// A tape of zeros that counts how often a section is asked for: of each of the first 13 units of ticket 7, and of any other. It
+/// keeps the units of ticket 7 of whose runs it is told, in order.
 #[derive(Drop)]
 struct Counting {
     zeros: ListDeal,
     units: Vec<AtomicU64>,
     others: AtomicU64,
+    told: Vec<AtomicU64>,
+    tellings: AtomicU64,
+}
+
+/// 13 counts.
+fn zeros(alloc: Global) -> Result<Vec<AtomicU64>, Memory> {
+    let mut counts = Vec::new(alloc);
+    for _ in 0..13 {
+        counts.push(AtomicU64::new(0))?;
+    }
+    Ok(counts)
 }
 
 impl Counting {
     fn new(alloc: Global) -> Result<Counting, Memory> {
-        let mut units = Vec::new(alloc);
-        for _ in 0..13 {
-            units.push(AtomicU64::new(0))?;
-        }
         Ok(Counting {
             zeros: ListDeal::new(Vec::new(alloc)),
-            units,
+            units: zeros(alloc)?,
             others: AtomicU64::new(0),
+            told: zeros(alloc)?,
+            tellings: AtomicU64::new(0),
         })
     }
 
@@ -92,6 +103,15 @@ impl Counting {
         }
         self.others.load(Ordering::SeqCst) == 0
     }
+
+    /// Whether it was told of a run for each of these sections, in this order, and of no other.
+    fn was_told(&self, dealt: &[Dealt]) -> bool {
+        let mut same = self.tellings.load(Ordering::SeqCst) == dealt.len() as u64;
+        for (at, told) in dealt.iter().zip(self.told.iter()) {
+            same = same && at.ticket == 7 && told.load(Ordering::SeqCst) == at.unit;
+        }
+        same
+    }
 }
 
 impl Deal for Counting {
@@ -100,6 +120,15 @@ impl Deal for Counting {
     fn section(&self, alloc: Global, ticket: u64, unit: u64, len: u64) -> Result<Section, Memory> {
         let _before = self.count(ticket, unit).fetch_add(1, Ordering::SeqCst);
         self.zeros.section(alloc, ticket, unit, len)
+    }
+}
+
+impl Watch for Counting {
+    fn ran(&self, ticket: u64, unit: u64, _run: &UnitRun) {
+        let place = self.tellings.fetch_add(1, Ordering::SeqCst) as usize;
+        if ticket == 7 && place < self.told.len() {
+            self.told[place].store(unit, Ordering::SeqCst);
+        }
     }
 }
 
@@ -157,7 +186,7 @@ fn are_recurrent(rows: &Rows) -> bool {
 }
 
 #[test]
-fn workers_ask_once_for_the_section_of_each_secure_unit_and_of_the_root(
+fn workers_ask_once_for_each_section_and_tell_of_its_run_in_order(
     rt: HostRuntime,
 ) -> Result<(), Fail> {
     for workers in [1, 2, 16] {
@@ -167,6 +196,10 @@ fn workers_ask_once_for_the_section_of_each_secure_unit_and_of_the_root(
         assert!(rt; deal.each_once(), "{workers} workers");
         assert_eq!(rt; answered.dealt.len(), 10);
         assert_eq!(rt; answered.runs.len(), 10);
+        assert!(rt; deal.was_told(&answered.dealt), "{workers} workers");
+        assert_eq!(rt; answered.view_a.units.len(), 13);
+        assert_eq!(rt; answered.view_b.units.len(), 13);
+        assert_eq!(rt; answered.view_broker.units.len(), 1);
     }
     Ok(())
 }

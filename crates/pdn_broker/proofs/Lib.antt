@@ -4,3 +4,7 @@ pub mod AnswerLaws
 pub mod UnitLaws
 pub mod PreparedLaws
 pub mod PreparingLaws
+pub mod PreparedForms
+pub mod UnitPlaces
+pub mod ViewLaws
+pub mod SameRefusals

@@ -45,7 +45,7 @@ use Rattle.pdn_broker.specs.Runs.{Both, Shared, Takes, Tape, world, section_at, 
 use Rattle.pdn_broker.specs.Answering.{nothing_given, root_len, top_order}
 use Rattle.pdn_broker.specs.Units.{AreUnits, UnitsTell, secure_words, secure_own, unit_gives, gives_by, net_or, is_secure, numbers_upto}
 use Rattle.pdn_broker.specs.Prepared.{PreparedModel, IsPrepared}
-use Rattle.pdn_broker.specs.Running.{unit_at, root_number, root_of, engines_own, secure_run_on, secure_run, secure_runs, outputs_of, root_run, opened_words, opened_list, Opens, AnswersMean}
+use Rattle.pdn_broker.specs.Running.{unit_at, root_number, root_of, engines_own, secure_run_on, secure_run, secure_runs, outputs_of, root_run, opened_words, opened_list, Opens, AnswersMean, IsRootRun}
 use Rattle.pdn_broker.proofs.RunLaws.{dealt_shared, run_where_dealt, shared_nothing, shared_append}
 use Rattle.pdn_broker.proofs.AnswerLaws.{Answers, opens_plain, answers_from}
 use Rattle.pdn_broker.proofs.UnitLaws.{made, all_made, flat, compiled_tell}
@@ -116,7 +116,7 @@ one_of : {X : Type 0} (f : ℕ → X) (k : ℕ) (b : Bool) → map f (cond b (k 
 one_of f k true = refl
 one_of f k false = refl
 
-mapped_more : {X : Type 0} (f : ℕ → X) (test : UnitKind → Bool) (units : List UnitModel) (k : ℕ)
+pub mapped_more : {X : Type 0} (f : ℕ → X) (test : UnitKind → Bool) (units : List UnitModel) (k : ℕ)
     → map f (numbers_upto test units (k + 1)) ≡ map f (numbers_upto test units k) ++ cond (test (get_or units k no_unit).kind) (f k ∷ []) []
 mapped_more {X} f test units k =
     let passes : ℕ → Bool = λ n. test (get_or units n no_unit).kind in
@@ -210,7 +210,7 @@ module _ (p : PreparedModel) (is : IsPrepared p) where
       (subst (λ (own : Both). Takes fits.net own nothing_given) (sym (own_same (unit_at p u))) (record { own_a = fits.takes.a; own_b = fits.takes.b; given_a = fits.takes.given; given_b = fits.takes.given }))
 
   -- ---- the root
-  tells : UnitsTell schema p.a.tables p.b.tables root p.units
+  pub tells : UnitsTell schema p.a.tables p.b.tables root p.units
   tells = compiled_tell schema p.a.tables p.b.tables root is.sound is.numbers p.units is.units is.stand
 
   pub some_units : 0 < length p.units
@@ -355,6 +355,9 @@ root_run_is p is tape ticket count unit net own given run e u n o g r =
 
 pub root_run_opens : (p : PreparedModel) → IsPrepared p → (tape : Tape) (ticket : ℕ) (run : Run) → run ≡ root_run p tape ticket → Opens p run
 root_run_opens p is tape ticket run e = subst (Opens p) (sym e) (root_opens p is tape ticket)
+
+pub opens_of : (p : PreparedModel) → IsPrepared p → (ticket : ℕ) (run : Run) → IsRootRun p ticket run → Opens p run
+opens_of p is ticket run h = root_run_opens p is h.0 ticket run h.1
 
 -- ---- what the root opens, in code
 module _ (p : PreparedModel) (run : Run) (opens : Opens p run) (a b : List ℕ) (at_a : a ≡ run.a.outputs) (at_b : b ≡ run.b.outputs) where

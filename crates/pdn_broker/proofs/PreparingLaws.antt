@@ -34,7 +34,7 @@ use Rattle.pdn_broker.specs.Runs.{Both}
 use Rattle.pdn_broker.specs.Answering.{top_order, root_own}
 use Rattle.pdn_site.proofs.CompiledSlices.{slices_mean}
 use Rattle.pdn_broker.specs.Units.{AreUnits, UnitsStand}
-use Rattle.pdn_broker.specs.Prepared.{PreparedModel, IsPrepared, IsOf, IsNotPrepared, IsRefusedAt, AreEngines, AreTooLarge, compile_refusal}
+use Rattle.pdn_broker.specs.Prepared.{PreparedModel, IsPrepared, IsOf, IsNotPrepared, IsRefusedAt, AreEngines, AreNoEngines, AreTooLarge, compile_refusal}
 
 -- ---- directories
 
@@ -49,17 +49,23 @@ pub memory_refused : {X : Type 0} (schema : SchemaModel) (root : Node) (a b : Li
 memory_refused schema root a b (Ok x) h = absurd h
 memory_refused schema root a b (Err e) h = subst (IsNotPrepared schema root a b) (sym h) tt
 
-pub refused_a : (schema : SchemaModel) (root : Node) (a b : List Rows) (e : PrepareErr) → IsRefusedAt A schema a e → IsNotPrepared schema root a b e
-refused_a schema root a b (err.Rows A table cause) h = h.1
-refused_a schema root a b (err.Rows B table cause) h = let other : ◌≡◌ {A = Site} B A = h.0 in absurd (cc)
-refused_a schema root a b (err.TooLarge limit u) h = absurd h
-refused_a schema root a b err.Memory h = tt
+pub refused_a : (schema : SchemaModel) (a b : List Rows) (e : PrepareErr) → IsRefusedAt A schema a e → AreNoEngines schema a b e
+refused_a schema a b (err.Rows A table cause) h = h.1
+refused_a schema a b (err.Rows B table cause) h = let other : ◌≡◌ {A = Site} B A = h.0 in absurd (cc)
+refused_a schema a b (err.TooLarge limit u) h = absurd h
+refused_a schema a b err.Memory h = tt
 
-pub refused_b : (schema : SchemaModel) (root : Node) (a b : List Rows) (e : PrepareErr) → AreValid schema a → IsRefusedAt B schema b e → IsNotPrepared schema root a b e
-refused_b schema root a b (err.Rows A table cause) valid h = let other : ◌≡◌ {A = Site} A B = h.0 in absurd (cc)
-refused_b schema root a b (err.Rows B table cause) valid h = (valid, h.1)
-refused_b schema root a b (err.TooLarge limit u) valid h = absurd h
-refused_b schema root a b err.Memory valid h = tt
+pub refused_b : (schema : SchemaModel) (a b : List Rows) (e : PrepareErr) → AreValid schema a → IsRefusedAt B schema b e → AreNoEngines schema a b e
+refused_b schema a b (err.Rows A table cause) valid h = let other : ◌≡◌ {A = Site} A B = h.0 in absurd (cc)
+refused_b schema a b (err.Rows B table cause) valid h = (valid, h.1)
+refused_b schema a b (err.TooLarge limit u) valid h = absurd h
+refused_b schema a b err.Memory valid h = tt
+
+pub no_engines : (schema : SchemaModel) (root : Node) (a b : List Rows) (e : PrepareErr) → AreNoEngines schema a b e → IsNotPrepared schema root a b e
+no_engines schema root a b (err.Rows A table cause) h = h
+no_engines schema root a b (err.Rows B table cause) h = h
+no_engines schema root a b (err.TooLarge limit u) h = absurd h
+no_engines schema root a b err.Memory h = tt
 
 too_large : (schema : SchemaModel) (root : Node) (a b : List Rows) (cause : CompileErr) → AreValid schema a → AreValid schema b
     → IsTooLarge schema root (segments_of schema root []) (site_dirs a b (segments_of schema root [])) cause → IsNotPrepared schema root a b (compile_refusal cause)
@@ -185,8 +191,8 @@ is_of schema root a b staged p e f = record {
 -- ---- both engines, and their units
 
 pub refused_second : (schema : SchemaModel) (root : Node) (staged : List SegmentModel) (a b : List Rows) (ea : EngineModel) (e : PrepareErr) → ea ≡ engine_of A schema root staged a → IsEngine ea
-    → IsRefusedAt B schema b e → IsNotPrepared schema root a b e
-refused_second schema root staged a b ea e made is h = refused_b schema root a b e (subst (λ (x : EngineModel). AreValid x.schema x.tables) made is.tables.valid) h
+    → IsRefusedAt B schema b e → AreNoEngines schema a b e
+refused_second schema root staged a b ea e made is h = refused_b schema a b e (subst (λ (x : EngineModel). AreValid x.schema x.tables) made is.tables.valid) h
 
 pub both_engines : (schema : SchemaModel) (root : Node) (staged : List SegmentModel) (a b : List Rows) (ea eb : EngineModel) → staged ≡ segments_of schema root [] → ea ≡ engine_of A schema root staged a → eb ≡ engine_of B schema root staged b
     → IsEngine ea → IsEngine eb → AreEngines schema root a b ea eb
@@ -229,10 +235,10 @@ engines_ready schema root ea eb dirs units columns order own en sound top d made
 
 -- ---- a query that is prepared
 
-own_a : {schema : SchemaModel} {root : Node} {a b : List Rows} {ea eb : EngineModel} → AreEngines schema root a b ea eb → ea.tables ≡ a
+pub own_a : {schema : SchemaModel} {root : Node} {a b : List Rows} {ea eb : EngineModel} → AreEngines schema root a b ea eb → ea.tables ≡ a
 own_a en = ap (λ (x : EngineModel). x.tables) en.made_a
 
-own_b : {schema : SchemaModel} {root : Node} {a b : List Rows} {ea eb : EngineModel} → AreEngines schema root a b ea eb → eb.tables ≡ b
+pub own_b : {schema : SchemaModel} {root : Node} {a b : List Rows} {ea eb : EngineModel} → AreEngines schema root a b ea eb → eb.tables ≡ b
 own_b en = ap (λ (x : EngineModel). x.tables) en.made_b
 
 engines_own : (schema : SchemaModel) (root : Node) (a b : List Rows) (ea eb : EngineModel) → AreEngines schema root a b ea eb → AreEngines schema root ea.tables eb.tables ea eb

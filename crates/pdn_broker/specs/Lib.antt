@@ -4,3 +4,4 @@ pub mod Units
 pub mod Prepared
 pub mod Running
 pub mod Views
+pub mod Answered

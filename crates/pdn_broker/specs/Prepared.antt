@@ -17,6 +17,7 @@ use Rattle.pdn_site.specs.Compiling.{compiled}
 use Rattle.pdn_site.specs.Engines.{EngineModel, IsEngine, IsFirstRefused}
 use Rattle.pdn_site.specs.Meaning.{AreTables, numbers_fit}
 use Rattle.pdn_site.specs.NetMeaning.{site_dirs}
+use Rattle.pdn_agree.specs.Agreement.{Union, Agree}
 use Rattle.pdn_broker.specs.declared.preparing.PrepareErr.{PrepareErr}
 use Rattle.pdn_broker.specs.declared.preparing.PrepareErr.TheVariants as err
 use Rattle.pdn_broker.specs.Runs.{Both}
@@ -89,6 +90,10 @@ IsNotPrepared schema root a b (err.TooLarge limit unit) =
     AreValid schema a × AreValid schema b × (compiled schema root (segments_of schema root []) (site_dirs a b (segments_of schema root [])) ≡ Err (limit, unit))
 IsNotPrepared schema root a b err.Memory = Unit {0}
 
+-- refused for the same cause over every union that a site can't tell apart from this one
+abbrev pub IsRefusedAlike : SchemaModel → Node → List Rows → List Rows → PrepareErr → Type 0
+IsRefusedAlike schema root a b e = (site : Site) (other : Union) → Agree site schema (record { a = a; b = b }) other → IsNotPrepared schema root other.a other.b e
+
 -- why a site has no engine
 abbrev pub IsRefusedAt : Site → SchemaModel → List Rows → PrepareErr → Type 0
 IsRefusedAt site schema tables (err.Rows at table cause) = (at ≡ site) × IsFirstRefused schema tables table cause
@@ -108,6 +113,13 @@ pub record AreEngines (schema : SchemaModel) (root : Node) (rows_a rows_b : List
   pub made_b : b ≡ engine_at B schema root rows_b
   pub is_a : IsEngine a
   pub is_b : IsEngine b
+
+-- why there are no engines: the first table of A, or else of B, that isn't valid
+abbrev pub AreNoEngines : SchemaModel → List Rows → List Rows → PrepareErr → Type 0
+AreNoEngines schema a b (err.Rows A table cause) = IsFirstRefused schema a table cause
+AreNoEngines schema a b (err.Rows B table cause) = AreValid schema a × IsFirstRefused schema b table cause
+AreNoEngines schema a b (err.TooLarge limit unit) = ⊥
+AreNoEngines schema a b err.Memory = Unit {0}
 
 -- the units over valid tables are refused, by the limit that is passed first
 abbrev pub AreTooLarge : SchemaModel → Node → List Rows → List Rows → PrepareErr → Type 0

@@ -12,10 +12,9 @@ use Rattle.pdn_gmw.specs.Pairs.{Run}
 use Rattle.pdn_site.specs.Models.{UnitModel}
 use Rattle.pdn_site.specs.Laying.{list_words}
 use Rattle.pdn_site.specs.Engines.{EngineModel, no_unit, segment_number, value_of, secure_words}
-use Rattle.pdn_broker.specs.declared.answered.Answered.{Answered}
 use Rattle.pdn_broker.specs.Runs.{Both, Tape, section_at, run_on}
 use Rattle.pdn_broker.specs.Answering.{nothing_given}
-use Rattle.pdn_broker.specs.Units.{net_or, secure_numbers, dealt_of}
+use Rattle.pdn_broker.specs.Units.{net_or, secure_numbers}
 use Rattle.pdn_broker.specs.Prepared.{PreparedModel, IsPrepared}
 
 -- ---- units
@@ -60,7 +59,19 @@ outputs_of runs = record { a = flat_map (λ (run : Run). run.a.outputs) runs; b 
 unfoldable pub root_run : PreparedModel → Tape → ℕ → Run
 root_run p tape ticket = run_at p tape ticket (root_number p) p.own (outputs_of (secure_runs p tape ticket))
 
--- ---- the answer
+-- the runs of a query: those of the secure units, in order, and then the root's
+abbrev pub runs_of : PreparedModel → Tape → ℕ → List Run
+runs_of p tape ticket = secure_runs p tape ticket ++ root_run p tape ticket ∷ []
+
+-- the runs of a query with this ticket, on some tape
+abbrev pub AreRuns : PreparedModel → ℕ → List Run → Type 0
+AreRuns p ticket runs = (tape : Tape) × (runs ≡ runs_of p tape ticket)
+
+-- the root's run, on some tape
+abbrev pub IsRootRun : PreparedModel → ℕ → Run → Type 0
+IsRootRun p ticket run = (tape : Tape) × (run ≡ root_run p tape ticket)
+
+-- ---- what the root opens
 
 -- the words that the root's two outputs come to, and the rows that they hold
 abbrev pub opened_words : Run → List ℕ
@@ -68,13 +79,6 @@ opened_words run = xor_lists run.a.outputs run.b.outputs
 
 abbrev pub opened_list : PreparedModel → Run → Rows
 opened_list p run = valid_rows (opened_words run) (list_from 0 p.columns (root_of p).len)
-
--- An answer has the runs of the secure units and of the root, each on the section of this ticket and its own number, these numbers,
--- and, in the query's order, the rows that the root's two outputs come to.
-pub record IsAnswered (p : PreparedModel) (tape : Tape) (ticket : ℕ) (answered : Answered) : Type 0 where
-  pub dealt : answered.dealt.items ≡ dealt_of ticket p.units
-  pub runs : answered.runs.items ≡ secure_runs p tape ticket ++ root_run p tape ticket ∷ []
-  pub rows : answered.rows ≡ listed p.order (opened_list p (root_run p tape ticket))
 
 -- the root's outputs are a list of so many rows, and in the query's order its rows are the plan's meaning over the union
 pub record Opens (p : PreparedModel) (run : Run) : Type 0 where

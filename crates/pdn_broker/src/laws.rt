@@ -1,4 +1,5 @@
 //! What the runs of a query come to.
+ghost use Rattle.pdn_broker.specs.Prepared.{PreparedForm};
 ghost use Rattle.pdn_broker.specs.Running.{AnswersMean};
 ghost use Rattle.pdn_broker.specs.Units.{CompiledTell};
 
@@ -14,4 +15,11 @@ pub fn answers_mean()
 /// root's.
 pub fn compiled_units_tell()
     ensures { CompiledTell }
+{}
+
+/// A prepared query is what is made ready of its schema, its plan's tree, both sites' tables and the units over them: nothing else
+/// can stand in it.
+#[tactic(auto, using(crate::proofs::PreparedForms::form_of_prepared))]
+pub fn prepared_form()
+    ensures { PreparedForm }
 {}

@@ -12,10 +12,12 @@ ghost use Rattle.pdn_broker.specs.declared.preparing.PrepareErr.TheVariants.{Mem
 ghost use Rattle.pdn_broker.specs.Answering.{top_order};
 ghost use Rattle.pdn_broker.specs.Prepared.{
   AreEngines,
+  AreNoEngines,
   AreTooLarge,
   IsOf,
   IsPrepared,
   IsNotPrepared,
+  IsRefusedAlike,
   IsRefusedAt,
   compile_refusal,
 };
@@ -196,7 +198,7 @@ fn engines(
     requires few_b { All (λ (rows : RowsModel). length rows < 2 ^ 32 - 1) tables_b }
     ensures made { IfOk result (λ engines.
         AreEngines schema.now plan.now.root tables_a tables_b engines.a engines.b) }
-    ensures refused { IfErr result (IsNotPrepared schema.now plan.now.root tables_a tables_b) }
+    ensures refused { IfErr result (AreNoEngines schema.now tables_a tables_b) }
 {
     let a = engine(alloc, Site::A, schema, plan, staged, tables_a)?;
     let b = engine(alloc, Site::B, schema, plan, staged, tables_b)?;
@@ -291,8 +293,9 @@ fn together(engines: BothEngines, made: PublicUnits, ends: Ends) -> Prepared
 
 /// Makes the plan of a query ready to be answered over both sites' tables, which stand in the order of the schema.
 ///
-/// A table that isn't valid is refused, A's before B's, and then what passes a limit.
-#[tactic(auto, using(crate::proofs::PreparingLaws::all_made_of, crate::proofs::PreparingLaws::engines_refused))]
+/// A table that isn't valid is refused, A's before B's, and then what passes a limit. What is refused over valid tables is refused for
+/// the same cause over every other union of valid tables that agrees with them for a site: a refusal tells nothing of private rows.
+#[tactic(auto, using(crate::proofs::PreparingLaws::all_made_of, crate::proofs::PreparingLaws::engines_refused, crate::proofs::PreparingLaws::no_engines, crate::proofs::SameRefusals::no_engines_alike, crate::proofs::SameRefusals::too_large_alike))]
 pub fn prepare(
     alloc: Global,
     schema: &Schema,
@@ -307,6 +310,7 @@ pub fn prepare(
     requires few_b { All (λ (rows : RowsModel). length rows < 2 ^ 32 - 1) tables_b }
     ensures made { IfOk result (IsOf schema.now plan.now.root tables_a tables_b) }
     ensures refused { IfErr result (IsNotPrepared schema.now plan.now.root tables_a tables_b) }
+    ensures same { IfErr result (IsRefusedAlike schema.now plan.now.root tables_a tables_b) }
 {
     let staged = levels(alloc, schema, plan)?;
     let engines = engines(alloc, schema, plan, &staged, tables_a, tables_b)?;

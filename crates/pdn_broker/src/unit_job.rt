@@ -1,17 +1,14 @@
 //! The run of a secure unit, as a job.
 ghost use Rattle.std.specs.Prelude.{◌≡◌, ◌<◌, true, length, IfOk};
 ghost use Rattle.pdn_dealer.specs.Sections.{section_length};
-ghost use Rattle.pdn_broker.specs.Prepared.{IsPrepared};
 ghost use Rattle.pdn_broker.specs.Units.{is_secure, net_or};
-ghost use Rattle.pdn_broker.specs.Running.{unit_at, engines_own, secure_run_on};
+ghost use Rattle.pdn_broker.specs.Running.{unit_at, secure_run_on};
 
 use crate::answered::Dealt;
 use crate::prepared::Prepared;
 use crate::shares::Shares;
 use crate::unit_run::run_dealt;
-use crate::units::{circuit_of, unit_at};
 use pdn_base::Memory;
-use pdn_circuit::Circuit;
 use pdn_dealer::{Deal, Section, section_len};
 use pdn_gmw::UnitRun;
 use pdn_pool::Job;
@@ -50,36 +47,13 @@ impl<'a, D: Deal> Job for UnitJob<'a, D> {
     }
 }
 
-/// The circuit of a secure unit.
-fn circuit_at(prepared: &Prepared, unit: u64) -> &Circuit
-    requires in_range { unit < length prepared.now.units }
-    requires secure { is_secure (unit_at prepared.now unit).kind ≡ true }
-    ensures net { result.now ≡ net_or (unit_at prepared.now unit).circuit }
-    ensures kept { IsPrepared prepared.now }
-{
-    circuit_of(unit_at(&prepared.units, unit))
-}
-
 /// How many words the section of a secure unit has.
 fn section_len_at(prepared: &Prepared, unit: u64) -> u64
     requires in_range { unit < length prepared.now.units }
     requires secure { is_secure (unit_at prepared.now unit).kind ≡ true }
     ensures { result ≡ section_length (net_or (unit_at prepared.now unit).circuit) }
 {
-    section_len(circuit_at(prepared, unit))
-}
-
-/// Both sites' words of a secure unit.
-fn secure_own(alloc: Global, prepared: &Prepared, unit: u64) -> Result<Shares, Memory>
-    requires in_range { unit < length prepared.now.units }
-    requires secure { is_secure (unit_at prepared.now unit).kind ≡ true }
-    ensures { IfOk result (λ own.
-        own ≡ engines_own prepared.now.a prepared.now.b (unit_at prepared.now unit)) }
-{
-    Ok(Shares {
-        a: prepared.a.secure_inputs(alloc, &prepared.units, unit)?,
-        b: prepared.b.secure_inputs(alloc, &prepared.units, unit)?,
-    })
+    section_len(prepared.circuit(unit))
 }
 
 /// The run of a secure unit on the section that was dealt for it.
@@ -94,7 +68,7 @@ fn secure_run(
     requires section { length section ≡ section_length (net_or (unit_at prepared.now unit).circuit) }
     ensures { IfOk result (λ run. run ≡ secure_run_on prepared.now unit section) }
 {
-    let own = secure_own(alloc, prepared, unit)?;
-    let circuit = circuit_at(prepared, unit);
+    let own = prepared.secure_words(alloc, unit)?;
+    let circuit = prepared.circuit(unit);
     run_dealt(alloc, circuit, own, Shares::new(alloc), section)
 }

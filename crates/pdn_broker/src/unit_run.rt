@@ -31,8 +31,11 @@ pub fn run_unit<D: Deal>(
     run_dealt(alloc, circuit, own, given, section)
 }
 
-/// The run of a circuit by two halves, on a section that was dealt with as many words as the circuit needs.
-pub(crate) fn run_dealt(
+/// The run of a circuit by two halves, on the sites' own words and their shares of given ones, as many as the circuit takes, and on
+/// a section that was dealt with as many words as the circuit needs.
+///
+/// Memory is the only error.
+pub fn run_dealt(
     alloc: Global,
     circuit: &Circuit,
     own: Shares,

@@ -1,11 +1,14 @@
 //! The units of a query, one by one.
-ghost use Rattle.std.specs.Prelude.{◌≡◌, ◌<◌, length, get_or, IsSome};
+ghost use Rattle.std.specs.Prelude.{◌≡◌, ◌<◌, ◌++◌, [], ◌∷◌, length, get_or, cond, IsSome, IfOk, OnOk};
 ghost use Rattle.pdn_circuit.specs.Gates.{InOrder};
 ghost use Rattle.pdn_site.specs.Engines.{no_unit};
-ghost use Rattle.pdn_broker.specs.Units.{net_or, is_secure, is_dealt, CircuitStands, UnitsStand};
+ghost use Rattle.pdn_broker.specs.Units.{net_or, is_secure, is_dealt, dealt_of, CircuitStands, UnitsStand};
 
+use crate::answered::Dealt;
+use pdn_base::Memory;
 use pdn_circuit::Circuit;
 use pdn_site::{Unit, UnitKind, Units};
+use std::alloc::Global;
 
 pub(crate) fn unit_at(units: &Units, unit: u64) -> &Unit
     requires { unit < length units.now }
@@ -51,6 +54,36 @@ pub(crate) fn is_dealt(unit: &Unit) -> bool
         UnitKind::Secure => true,
         UnitKind::Root => true,
     }
+}
+
+/// Adds the section of a unit, where one is dealt for it.
+fn push_dealt(dealt: &mut Vec<Dealt>, unit: &Unit, at: Dealt) -> Result<(), Memory>
+    ensures { OnOk result (dealt.new.items
+        ≡ dealt.old.items ++ cond (is_dealt unit.now.kind) (at ∷ []) []) }
+{
+    if is_dealt(unit) {
+        dealt.push(at)?;
+    }
+    Ok(())
+}
+
+/// The sections that are dealt for a query's units.
+pub(crate) fn dealt_sections(
+    alloc: Global,
+    units: &Units,
+    ticket: u64,
+) -> Result<Vec<Dealt>, Memory>
+    ensures { IfOk result (λ dealt. dealt.items ≡ dealt_of ticket units.now) }
+{
+    let mut dealt = Vec::new(alloc);
+    for k in 0..units.units.len() {
+        let at = Dealt {
+            ticket,
+            unit: k as u64,
+        };
+        push_dealt(&mut dealt, unit_at(units, at.unit), at)?;
+    }
+    Ok(dealt)
 }
 
 // what the type of a circuit keeps is known once it is looked at

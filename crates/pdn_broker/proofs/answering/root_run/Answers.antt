@@ -2,7 +2,7 @@ use Rattle.std.proofs.Common.{◌-◌, length, sym, ap, ◌∙◌, arith}
 use Rattle.std.proofs.lemmas.Result.{IfOk-weaker}
 use Rattle.pdn_broker.specs.Prepared.{PreparedModel}
 use Rattle.pdn_broker.specs.Running.{unit_at}
-use Rattle.pdn_broker.proofs.PreparedLaws.{some_units, root_in_range, root_has_circuit, root_run_takes, root_run_is, root_run_opens}
+use Rattle.pdn_broker.proofs.PreparedLaws.{some_units, root_in_range, root_has_circuit, root_run_takes, root_run_is}
 use Rattle.pdn_broker.proofs.answering.root_run.Goals as goal
 
 pub overflow_sub-at : goal.overflow_sub-at
@@ -17,19 +17,11 @@ circuit_of-requires g c = root_has_circuit _ c.prepared.invariant _ _ (c.units.e
 pub run_unit-requires-after_bounds : goal.run_unit-requires-after_bounds
 run_unit-requires-after_bounds g c κs within =
     root_run_takes c.args.prepared.now c.units.ensures.kept (g.D.Deal.tape c.args.deal.now) c.args.ticket c.units.result _ _ _ _ c.units.ensures.count
-    (c.unit_at-root.ensures ∙ ap (λ (p : PreparedModel). unit_at p (c.units.result - 1)) c.prepared.view_is) c.circuit_of.ensures (c.in_ok-own.ensures ∙ ap (λ (p : PreparedModel). p.own) c.prepared.view_is) c.requires
+    (c.unit_at-root.ensures ∙ ap (λ (p : PreparedModel). unit_at p (c.units.result - 1)) c.prepared.view_is) c.circuit_of.ensures c.in_ok-own.ensures c.requires
 
-pub returns-clause-run : goal.returns-clause-run
-returns-clause-run g c =
+pub returns : goal.returns
+returns g c =
     IfOk-weaker c.run_unit.result _ _
     (λ run is. root_run_is c.args.prepared.now c.units.ensures.kept (g.D.Deal.tape c.args.deal.now) c.args.ticket c.units.result _ _ _ _ run c.units.ensures.count
-    (c.unit_at-root.ensures ∙ ap (λ (p : PreparedModel). unit_at p (c.units.result - 1)) c.prepared.view_is) c.circuit_of.ensures (c.in_ok-own.ensures ∙ ap (λ (p : PreparedModel). p.own) c.prepared.view_is) c.requires is)
-    c.run_unit.ensures
-
-pub returns-clause-opens : goal.returns-clause-opens
-returns-clause-opens g c =
-    IfOk-weaker c.run_unit.result _ _
-    (λ run is. root_run_opens c.args.prepared.now c.units.ensures.kept (g.D.Deal.tape c.args.deal.now) c.args.ticket run
-    (root_run_is c.args.prepared.now c.units.ensures.kept (g.D.Deal.tape c.args.deal.now) c.args.ticket c.units.result _ _ _ _ run c.units.ensures.count
-    (c.unit_at-root.ensures ∙ ap (λ (p : PreparedModel). unit_at p (c.units.result - 1)) c.prepared.view_is) c.circuit_of.ensures (c.in_ok-own.ensures ∙ ap (λ (p : PreparedModel). p.own) c.prepared.view_is) c.requires is))
+    (c.unit_at-root.ensures ∙ ap (λ (p : PreparedModel). unit_at p (c.units.result - 1)) c.prepared.view_is) c.circuit_of.ensures c.in_ok-own.ensures c.requires is)
     c.run_unit.ensures

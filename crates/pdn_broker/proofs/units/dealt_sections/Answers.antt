@@ -3,7 +3,7 @@ use Rattle.pdn_site.specs.Models.{UnitModel}
 use Rattle.pdn_broker.specs.declared.answered.Dealt.{Dealt}
 use Rattle.pdn_broker.specs.Units.{is_dealt}
 use Rattle.pdn_broker.proofs.PreparedLaws.{pushed_more}
-use Rattle.pdn_broker.proofs.answering.dealt_sections.Goals as goal
+use Rattle.pdn_broker.proofs.units.dealt_sections.Goals as goal
 
 pub loop-k-preserved : goal.loop-k-preserved
 loop-k-preserved c =
