@@ -4,6 +4,7 @@ ghost use Rattle.std.specs.Prelude.{◌≤◌, length, All};
 use crate::case::{Case, CaseErr, NamedFile, content};
 use crate::objects::{Objects, dealer_of_ones, import, objects_of};
 use pdn_base::Sink;
+use pdn_broker::Watch;
 use pdn_commands::pdn;
 use pdn_dealer::Deal;
 use pdn_startup::{ImportErr, dealer_of};
@@ -74,7 +75,7 @@ fn fault(alloc: Global, mut objects: Objects, name: &str) -> Result<Outcome, Cas
 }
 
 // The commands of a case, one after the other.
-fn run_all<R: Threads + Sync, D: Deal>(
+fn run_all<R: Threads + Sync, D: Deal + Watch>(
     rt: &R,
     alloc: Global,
     case: &Case,

@@ -3,9 +3,11 @@ ghost use Rattle.std.specs.Prelude.{◌≡◌, ◌≤◌, ℕ, length, All, IfOk
 ghost use Rattle.pdn_dealer.specs.Tapes.{first_words, list_tape};
 
 use pdn_base::{MemFiles, MemSink, Memory};
+use pdn_broker::Watch;
 use pdn_commands::{World, pdn};
 use pdn_dealer::{Deal, ListDeal, Section};
 use pdn_desk_keeper::MemDesk;
+use pdn_gmw::UnitRun;
 use pdn_keeper::MemSite;
 use std::alloc::{AllocError, Global};
 use std::sync::atomic::{AtomicU64, Ordering};
@@ -53,6 +55,10 @@ impl Deal for Recording {
         let _before = self.count(ticket, unit).fetch_add(1, Ordering::SeqCst);
         self.zeros.section(alloc, ticket, unit, len)
     }
+}
+
+impl Watch for Recording {
+    fn ran(&self, _ticket: u64, _unit: u64, _run: &UnitRun) {}
 }
 
 fn file(alloc: Global, name: &str, text: &str) -> Result<(String, Vec<u8>), AllocError>

@@ -11,6 +11,7 @@ ghost use Rattle.pdn_query.specs.Walk.{Came, Along};
 ghost use Rattle.pdn_script.specs.Stops.{end_of};
 
 use crate::inputs::{MOST_QUERIES, queries_of, read_inputs};
+use pdn_broker::Watch;
 use pdn_dealer::Deal;
 use pdn_plan::texts_are_written;
 use pdn_query::{Crew, Numbered, Outside, query_answer, say};
@@ -21,7 +22,7 @@ use std::alloc::Global;
 use std::thread::Threads;
 
 /// Answers the queries of the file in order, each with a ticket and in one put, up to the first that is refused.
-pub fn run<R: Threads + Sync, W: Outside, D: Deal>(
+pub fn run<R: Threads + Sync, W: Outside, D: Deal + Watch>(
     alloc: Global,
     file: &str,
     world: &mut W,
@@ -38,7 +39,7 @@ pub fn run<R: Threads + Sync, W: Outside, D: Deal>(
 }
 
 // Each query in order, with its number, from 1 on.
-fn answer_all<R: Threads + Sync, W: Outside, D: Deal>(
+fn answer_all<R: Threads + Sync, W: Outside, D: Deal + Watch>(
     alloc: Global,
     schema: &Schema,
     queries: &[Query],
@@ -61,7 +62,7 @@ fn answer_all<R: Threads + Sync, W: Outside, D: Deal>(
 }
 
 // One query's answer, in one put.
-fn answer<R: Threads + Sync, W: Outside, D: Deal>(
+fn answer<R: Threads + Sync, W: Outside, D: Deal + Watch>(
     alloc: Global,
     schema: &Schema,
     asked: Numbered<'_>,

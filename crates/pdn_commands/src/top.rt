@@ -16,6 +16,7 @@ use crate::command::{Command, read_command};
 use crate::load::{BatchFile, load};
 use crate::run::run;
 use pdn_base::Status;
+use pdn_broker::Watch;
 use pdn_dealer::Deal;
 use pdn_query::{Crew, Outside};
 use pdn_script::{Stop, refused};
@@ -25,7 +26,7 @@ use std::thread::Threads;
 /// Does what the words of a command line say, over these files and the rows that the sites keep, and puts the answers or
 /// the line of the first refusal on the sink. What is put is the same whatever words the dealer deals, and by
 /// however many workers.
-pub fn pdn<R: Threads + Sync, W: Outside, D: Deal>(
+pub fn pdn<R: Threads + Sync, W: Outside, D: Deal + Watch>(
     rt: &R,
     alloc: Global,
     words: &[String],
@@ -79,7 +80,7 @@ pub fn pdn<R: Threads + Sync, W: Outside, D: Deal>(
     perform(rt, alloc, words, world, deal)
 }
 
-fn perform<R: Threads + Sync, W: Outside, D: Deal>(
+fn perform<R: Threads + Sync, W: Outside, D: Deal + Watch>(
     rt: &R,
     alloc: Global,
     words: &[String],
@@ -103,7 +104,7 @@ fn perform<R: Threads + Sync, W: Outside, D: Deal>(
 }
 
 // All but the line of a refusal.
-fn follow<R: Threads + Sync, W: Outside, D: Deal>(
+fn follow<R: Threads + Sync, W: Outside, D: Deal + Watch>(
     rt: &R,
     alloc: Global,
     words: &[String],

@@ -25,7 +25,7 @@ use crate::tickets::next_ticket;
 use crate::workers::Crew;
 use crate::world::Outside;
 use pdn_base::{Memory, Rows, RowsErr, Site, Status, Tables};
-use pdn_broker::{PrepareErr, Prepared, answer, prepare};
+use pdn_broker::{PrepareErr, Prepared, Watch, answer, prepare};
 use pdn_dealer::Deal;
 use pdn_plan::{Plan, plan_means_answer, valid_unions_fit};
 use pdn_schema::{Schema, Table};
@@ -43,7 +43,7 @@ pub struct Numbered<'a> {
 
 /// The text of the answer to a query, over the rows of both sites. Its ticket is taken of the desk when nothing is left to
 /// be refused.
-pub fn query_answer<R: Threads + Sync, W: Outside, D: Deal>(
+pub fn query_answer<R: Threads + Sync, W: Outside, D: Deal + Watch>(
     alloc: Global,
     schema: &Schema,
     asked: Numbered<'_>,
@@ -84,7 +84,7 @@ fn gathered<W: Outside>(
 }
 
 // The answer of a query that is made ready.
-fn answered_rows<R: Threads + Sync, D: Deal>(
+fn answered_rows<R: Threads + Sync, D: Deal + Watch>(
     alloc: Global,
     schema: &Schema,
     query: &Query,

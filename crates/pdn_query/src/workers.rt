@@ -1,6 +1,7 @@
 //! Workers.
 ghost use Rattle.std.specs.Prelude.{◌≤◌};
 
+use pdn_broker::Watch;
 use pdn_dealer::Deal;
 use std::thread::Threads;
 
@@ -14,7 +15,7 @@ pub struct Workers {
 
 /// What runs the units of a query: a dealer of their sections, and workers on a machine's threads.
 #[derive(Drop)]
-pub struct Crew<'a, R: Threads + Sync, D: Deal> {
+pub struct Crew<'a, R: Threads + Sync, D: Deal + Watch> {
     pub rt: &'a R,
     pub deal: &'a D,
     pub workers: Workers,
