@@ -2,6 +2,12 @@
 #![tactic(auto)]
 
 #[cfg(test)]
+mod networks;
+#[cfg(test)]
 mod one_count;
+#[cfg(test)]
+mod recording;
+#[cfg(test)]
+mod recurrent_diagnosis;
 #[cfg(test)]
 mod sections;

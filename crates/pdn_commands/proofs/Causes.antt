@@ -16,6 +16,9 @@ use Rattle.pdn_schema.specs.Models.{SchemaModel, TableModel, table_of, no_table}
 use Rattle.pdn_schema.specs.Rows.{IsValid, IsRefused, union}
 use Rattle.pdn_sql.specs.declared.query.Query.{Query}
 use Rattle.pdn_base.specs.Operators.{Rows}
+use Rattle.pdn_view.specs.declared.view.Party.{Party}
+use Rattle.pdn_broker.specs.Prepared.{PreparedModel, prepared_of}
+use Rattle.pdn_broker.specs.Runs.{Tape}
 use Rattle.pdn_plan.specs.Answer.{answer}
 use Rattle.pdn_tree.specs.Plans.{PlanModel}
 use Rattle.pdn_tree.specs.declared.node.Node.{Node}
@@ -25,7 +28,7 @@ use Rattle.pdn_schema.specs.Printing.{text_of}
 use Rattle.pdn_commands.specs.Checking.{reporting, query_report, AreReported}
 use Rattle.pdn_commands.specs.Causes.{AskedRun, AskedQueries, AskedCheck, AskedReports, AskedLoad, AskedTable, Inputs, IsReached, IsAsked, AreWrong, Cause, IsDone, file_of}
 use Rattle.pdn_commands.specs.Commands.{Task, Run, Check, Load, task_of, task_script, script}
-use Rattle.pdn_query.specs.Answering.{scans, asking_if, asking, or_wrong, judging, units_over, or_large, answer_text, ticketing, answering, KeepsIf, KeepsAll, AllValid, IsTaken, IsAnswer}
+use Rattle.pdn_query.specs.Answering.{scans, asking_if, asking, or_wrong, judging, units_over, or_large, answer_text, shown_text, ticketing, answering, KeepsIf, KeepsAll, AllValid, IsTaken, IsAnswer}
 use Rattle.pdn_desk_keeper.specs.Desks.{DeskHeld, with_ticket}
 use Rattle.pdn_commands.specs.Running.{queries_script, with_given, AreLeft, IsGiven, AreAnswers}
 use Rattle.pdn_query.specs.Questions.{Told, Unbound, Broken, Hidden, IsBound, Holds, IsWrong, kept_at, IsSchemaIn, AreQueriesIn, AreRowsIn, Answer, New, Again, Differs, OverRows, OverPer, Batch, Gives, IsNext, after, with_desk, with_taken, questions}
@@ -82,7 +85,7 @@ module _ (told : Told) (P : Status → Type 0) where
   in_judged site at (t ∷ ts) (rows ∷ tables) next faults more = λ wrong is. in_wrong site at t rows _ wrong is (λ e refused. faults 0 at e (omega arith) tt (omega arith) refused)
       (λ valid. in_judged site (at + 1) ts tables next (λ k place e same before l refused. faults (suc k) place e (omega (arith, same)) (valid, before) (omega (arith, l)) refused) (λ later. more (valid, later)))
 
-  in_large : (next : Script) (compiled : Compiled) → ((limit unit : ℕ) → compiled ≡ Err (limit, unit) → P (status.TooLarge limit unit)) → ((units : List UnitModel) → compiled ≡ Ok units → Refusals told P next) →
+  in_large : (next : List UnitModel → Script) (compiled : Compiled) → ((limit unit : ℕ) → compiled ≡ Err (limit, unit) → P (status.TooLarge limit unit)) → ((units : List UnitModel) → compiled ≡ Ok units → Refusals told P (next units)) →
       Refusals told P (or_large next compiled)
   in_large next (Ok units) faults more = more units refl
   in_large next (Err passed) faults more = faults passed.0 passed.1 refl
@@ -162,7 +165,7 @@ Refused rose told words status.Memory = ⊥
 Refused rose told words other = Cause rose told words other
 
 -- ---- each refusal has its cause
-module _ (rose : Who → Type 0) (told : Told) (words : List (List ℕ)) where
+module _ (tape : Tape) (rose : Who → Type 0) (told : Told) (words : List (List ℕ)) where
   abbrev Caused : Script → Type 0
   Caused script = Refusals told (Refused rose told words) script
 
@@ -181,17 +184,17 @@ module _ (rose : Who → Type 0) (told : Told) (words : List (List ℕ)) where
       (λ most. record { asked = asked; valid_a = va; valid_b = vb; units = units; fits = fits; spent = all_given told.desk (length asked.reached.before) ticket most is })
       (λ few. more ticket few is)
 
-  planned_caused : (all : AskedQueries told words) (query : Query) (next : ℕ → Rows → Script) → (reached : IsReached told all.run.s all.queries query) → (plan : PlanModel) → IsBound all.run.s query (Ok plan) →
-      (IsTaken told.a told.b all.run.s query → (ticket : ℕ) → ticket < 2 ^ 40 → IsNext (with_given (length reached.before) told.desk) ticket → (rows : Rows) →
-      CausedAt (with_ticket (with_given (length reached.before) told.desk)) (next ticket rows)) → CausedAt (with_given (length reached.before) told.desk) (answering all.run.s query plan next)
+  planned_caused : (all : AskedQueries told words) (query : Query) (next : ℕ → PreparedModel → Rows → Script) → (reached : IsReached told all.run.s all.queries query) → (plan : PlanModel) → IsBound all.run.s query (Ok plan) →
+      (IsTaken told.a told.b all.run.s query → (ticket : ℕ) → ticket < 2 ^ 40 → IsNext (with_given (length reached.before) told.desk) ticket → (p : PreparedModel) (rows : Rows) →
+      CausedAt (with_ticket (with_given (length reached.before) told.desk)) (next ticket p rows)) → CausedAt (with_given (length reached.before) told.desk) (answering all.run.s query plan next)
   planned_caused all query next reached plan binds more = let now : Told = with_desk told (with_given (length reached.before) told.desk) in
       in_asked now (Refused rose told words) A plan.root 0 all.run.s.tables _ (λ a ha. in_asked now (Refused rose told words) B plan.root 0 all.run.s.tables _ (λ b hb.
       let asked : IsAsked told words = record { all = all; query = query; reached = reached; plan = plan; binds = binds; a = a; b = b; held_a = ha; held_b = hb } in
       in_judged now (Refused rose told words) A 0 all.run.s.tables a _ (λ k place e same before l refused. wrong_caused asked A place e (subst (λ (n : ℕ). AreWrong all.run.s a b A n e) (from_first k place same) (record { before = before; within = l; here = refused }))) (λ va.
       in_judged now (Refused rose told words) B 0 all.run.s.tables b _ (λ k place e same before l refused. wrong_caused asked B place e (subst (λ (n : ℕ). AreWrong all.run.s a b B n e) (from_first k place same) (va, record { before = before; within = l; here = refused }))) (λ vb.
       in_large now (Refused rose told words) _ (units_over all.run.s plan.root a b) (λ limit unit passes. record { asked = asked; valid_a = va; valid_b = vb; passes = passes })
-      (λ units fits. given_caused asked (λ ticket. next ticket (answer all.run.s (union a b) query)) va vb units fits (λ ticket few is.
-      more (record { plan = plan; binds = binds; a = a; b = b; held_a = ha; held_b = hb; valid_a = va; valid_b = vb; units = units; fits = fits }) ticket few is (answer all.run.s (union a b) query)))))))
+      (λ units fits. given_caused asked (λ ticket. next ticket (prepared_of all.run.s plan.root a b units) (answer all.run.s (union a b) query)) va vb units fits (λ ticket few is.
+      more (record { plan = plan; binds = binds; a = a; b = b; held_a = ha; held_b = hb; valid_a = va; valid_b = vb; units = units; fits = fits }) ticket few is (prepared_of all.run.s plan.root a b units) (answer all.run.s (union a b) query)))))))
 
   -- a query's plan is asked for first
   bound_caused : (all : AskedQueries told words) (query : Query) → IsReached told all.run.s all.queries query → (desk : Option DeskHeld) (next : PlanModel → Script) →
@@ -201,17 +204,17 @@ module _ (rose : Who → Type 0) (told : Told) (words : List (List ℕ)) where
   bound_caused all query reached desk next more (Err (Hidden column label)) is = inl (record { all = all; query = query; reached = reached; is = is })
 
   queries_caused : (all : AskedQueries told words) (number : ℕ) (before queries : List Query) → all.queries ≡ before ++ queries →
-      AllByRecursion (IsTaken told.a told.b all.run.s) before → AreLeft told.desk (length before) → CausedAt (with_given (length before) told.desk) (queries_script all.run.s number queries)
+      AllByRecursion (IsTaken told.a told.b all.run.s) before → AreLeft told.desk (length before) → CausedAt (with_given (length before) told.desk) (queries_script tape all.run.parties all.run.s number queries)
   queries_caused all number before [] e taken left = tt
   queries_caused all number before (query ∷ queries) e taken left =
       let reached : IsReached told all.run.s all.queries query = record { before = before; later = queries; stands = e; taken = taken; left = left } in
       bound_caused all query reached (with_given (length before) told.desk) _ (λ plan binds.
-      planned_caused all query (λ ticket rows. Say (answer_text number ticket plan.columns rows) (queries_script all.run.s (number + 1) queries)) reached plan binds (λ is ticket few next rows.
-      subst (λ (desk : Option DeskHeld). CausedAt desk (queries_script all.run.s (number + 1) queries)) (sym (given_more told.desk before query ticket few next))
+      planned_caused all query (λ ticket p rows. Say (answer_text number ticket plan.columns rows ++ shown_text all.run.parties tape p ticket) (queries_script tape all.run.parties all.run.s (number + 1) queries)) reached plan binds (λ is ticket few next p rows.
+      subst (λ (desk : Option DeskHeld). CausedAt desk (queries_script tape all.run.parties all.run.s (number + 1) queries)) (sym (given_more told.desk before query ticket few next))
       (queries_caused all (number + 1) (before ++ query ∷ []) queries (e ∙ sym (append_assoc before (query ∷ []) queries)) (all_more (IsTaken told.a told.b all.run.s) before query taken is) (left_more told.desk before query ticket few next))))
 
-  begun_caused : (all : AskedQueries told words) → Caused (queries_script all.run.s 1 all.queries)
-  begun_caused all = subst (λ (desk : Option DeskHeld). CausedAt desk (queries_script all.run.s 1 all.queries)) (none_given told.desk) (queries_caused all 1 [] all.queries refl tt (none_wanted told.desk))
+  begun_caused : (all : AskedQueries told words) → Caused (queries_script tape all.run.parties all.run.s 1 all.queries)
+  begun_caused all = subst (λ (desk : Option DeskHeld). CausedAt desk (queries_script tape all.run.parties all.run.s 1 all.queries)) (none_given told.desk) (queries_caused all 1 [] all.queries refl tt (none_wanted told.desk))
 
   answered_caused : (table : AskedTable told words) (rows : List (List Value)) → AreRowsIn (table_of table.load.s table.at) table.load.csv (Ok rows) → (answer : Answer) →
       Gives told (Batch table.load.site (table_of table.load.s table.at) table.load.number rows) answer →
@@ -254,10 +257,10 @@ module _ (rose : Who → Type 0) (told : Told) (words : List (List ℕ)) where
   task_inputs task next e more = in_inputs told (Refused rose told words) (file_of task) next (λ file is h. ((task, e, is), h))
       (λ net text hn ht line cause is. record { task = task; asked = e; net = net; text = text; net_held = hn; text_held = ht; is = is }) more
 
-  task_caused : (task : Option Task) → task_of words ≡ task → Caused (task_script task)
+  task_caused : (task : Option Task) → task_of words ≡ task → Caused (task_script tape task)
   task_caused None e = e
-  task_caused (Some (Run file workers)) e = task_inputs (Run file workers) _ e (λ s sql inputs read is.
-      let run : AskedRun told words = record { file = file; workers = workers; s = s; sql = sql; asked = e; inputs = inputs } in
+  task_caused (Some (Run file workers parties)) e = task_inputs (Run file workers parties) _ e (λ s sql inputs read is.
+      let run : AskedRun told words = record { file = file; workers = workers; parties = parties; s = s; sql = sql; asked = e; inputs = inputs } in
       in_read told (Refused rose told words) status.Sql _ (AreQueriesIn sql) read is (λ place kind are. inl (run, are))
       (λ queries are. begun_caused (record { run = run; queries = queries; are = are })))
   task_caused (Some (Check file)) e = task_inputs (Check file) _ e (λ s sql inputs read is.
@@ -288,12 +291,12 @@ module _ (rose : Who → Type 0) (told : Told) (words : List (List ℕ)) where
   refusal_plain : (result : Status) → Refused rose told words result → IsPlain result
   refusal_plain result h = record { not_done = λ e. subst (Refused rose told words) e h; not_memory = λ e. subst (Refused rose told words) e h }
 
-  pub caused : (out : List ℕ) (result : Status) (now : Told) → Follows rose told (script words) out result now → Cause rose told words result
-  caused out result now a = status_has questions rose (Cause rose told words) (λ who up. up) told (script words) out result now tt tt
-      (refusals_map (Refused rose told words) (Cause rose told words) cause_of told (script words) (task_caused (task_of words) refl)) a
+  pub caused : (out : List ℕ) (result : Status) (now : Told) → Follows rose told (script tape words) out result now → Cause rose told words result
+  caused out result now a = status_has questions rose (Cause rose told words) (λ who up. up) told (script tape words) out result now tt tt
+      (refusals_map (Refused rose told words) (Cause rose told words) cause_of told (script tape words) (task_caused (task_of words) refl)) a
 
-  pub all_plain : Refusals told IsPlain (script words)
-  all_plain = refusals_map (Refused rose told words) IsPlain refusal_plain told (script words) (task_caused (task_of words) refl)
+  pub all_plain : Refusals told IsPlain (script tape words)
+  all_plain = refusals_map (Refused rose told words) IsPlain refusal_plain told (script tape words) (task_caused (task_of words) refl)
 
 -- ---- what Done comes with
 
@@ -338,19 +341,20 @@ module _ (told : Told) where
   text_judged Q site at (t ∷ ts) [] next more = more tt
   text_judged Q site at (t ∷ ts) (rows ∷ tables) next more = λ wrong is. text_right Q site at t rows _ wrong is (λ valid. text_judged Q site (at + 1) ts tables next (λ later. more (valid, later)))
 
-  text_large : (Q : List ℕ → Told → Type 0) (next : Script) (compiled : Compiled) → ((units : List UnitModel) → compiled ≡ Ok units → Texts told Q next) → Texts told Q (or_large next compiled)
+  text_large : (Q : List ℕ → Told → Type 0) (next : List UnitModel → Script) (compiled : Compiled) → ((units : List UnitModel) → compiled ≡ Ok units → Texts told Q (next units)) → Texts told Q (or_large next compiled)
   text_large Q next (Ok units) more = more units refl
   text_large Q next (Err passed) more = tt
 
   text_given : (Q : List ℕ → Told → Type 0) (next : ℕ → Script) → ((ticket : ℕ) → ticket < 2 ^ 40 → IsNext told.desk ticket → Texts (with_taken told) Q (next ticket)) → Texts told Q (ticketing next)
   text_given Q next more = λ ticket is. text_there (with_taken told) Q next ticket (nat_lt ticket (2 ^ 40)) refl (λ few. more ticket few is)
 
-  planned_text : (Q : List ℕ → Told → Type 0) (s : SchemaModel) (number : ℕ) (query : Query) (next : Script) (plan : PlanModel) → IsBound s query (Ok plan) →
-      ((ticket : ℕ) (text : List ℕ) → ticket < 2 ^ 40 → IsNext told.desk ticket → IsAnswer told.a told.b s number ticket query text → Texts (with_taken told) (λ more now. Q (text ++ more) now) next) →
-      Texts told Q (answering s query plan (λ ticket rows. Say (answer_text number ticket plan.columns rows) next))
-  planned_text Q s number query next plan binds more = text_asked Q A plan.root 0 s.tables _ (λ a ha. text_asked Q B plan.root 0 s.tables _ (λ b hb.
+  planned_text : (tape : Tape) (parties : List Party) (Q : List ℕ → Told → Type 0) (s : SchemaModel) (number : ℕ) (query : Query) (next : Script) (plan : PlanModel) → IsBound s query (Ok plan) →
+      ((ticket : ℕ) (text : List ℕ) → ticket < 2 ^ 40 → IsNext told.desk ticket → IsAnswer tape parties told.a told.b s number ticket query text → Texts (with_taken told) (λ more now. Q (text ++ more) now) next) →
+      Texts told Q (answering s query plan (λ ticket p rows. Say (answer_text number ticket plan.columns rows ++ shown_text parties tape p ticket) next))
+  planned_text tape parties Q s number query next plan binds more = text_asked Q A plan.root 0 s.tables _ (λ a ha. text_asked Q B plan.root 0 s.tables _ (λ b hb.
       text_judged Q A 0 s.tables a _ (λ va. text_judged Q B 0 s.tables b _ (λ vb. text_large Q _ (units_over s plan.root a b) (λ units fits.
-      text_given Q (λ ticket. Say (answer_text number ticket plan.columns (answer s (union a b) query)) next) (λ ticket few is. more ticket (answer_text number ticket plan.columns (answer s (union a b) query)) few is (record {
+      let text : ℕ → List ℕ = λ ticket. answer_text number ticket plan.columns (answer s (union a b) query) ++ shown_text parties tape (prepared_of s plan.root a b units) ticket in
+      text_given Q (λ ticket. Say (text ticket) next) (λ ticket few is. more ticket (text ticket) few is (record {
         taken = record { plan = plan; binds = binds; a = a; b = b; held_a = ha; held_b = hb; valid_a = va; valid_b = vb; units = units; fits = fits };
         printed = refl;
       })))))))
@@ -368,48 +372,48 @@ module _ (told : Told) where
       (λ more are. done (query_report s number query plan ++ more) (plan, more, binds, refl, are)))
 
 -- the answers of queries, before which so many tickets were given
-queries_text : (told : Told) (Q : List ℕ → Told → Type 0) (s : SchemaModel) (number before : ℕ) (queries : List Query) →
-    ((text : List ℕ) → AreAnswers told s number before queries text → Q text (with_desk told (with_given (before + length queries) told.desk))) →
-    Texts (with_desk told (with_given before told.desk)) Q (queries_script s number queries)
-queries_text told Q s number before [] done = subst (λ (count : ℕ). Q [] (with_desk told (with_given count told.desk))) (plus_none before) (done [] refl)
-queries_text told Q s number before (query ∷ queries) done = let now : Told = with_desk told (with_given before told.desk) in
-    bound_text now Q s query _ (λ plan binds. planned_text now Q s number query _ plan binds (λ ticket text few next is.
-    subst (λ (desk : Option DeskHeld). Texts (with_desk told desk) (λ more after. Q (text ++ more) after) (queries_script s (number + 1) queries)) (sym (given_next told.desk before ticket few next))
-    (queries_text told (λ more after. Q (text ++ more) after) s (number + 1) (before + 1) queries (λ more are.
+queries_text : (tape : Tape) (parties : List Party) (told : Told) (Q : List ℕ → Told → Type 0) (s : SchemaModel) (number before : ℕ) (queries : List Query) →
+    ((text : List ℕ) → AreAnswers tape parties told s number before queries text → Q text (with_desk told (with_given (before + length queries) told.desk))) →
+    Texts (with_desk told (with_given before told.desk)) Q (queries_script tape parties s number queries)
+queries_text tape parties told Q s number before [] done = subst (λ (count : ℕ). Q [] (with_desk told (with_given count told.desk))) (plus_none before) (done [] refl)
+queries_text tape parties told Q s number before (query ∷ queries) done = let now : Told = with_desk told (with_given before told.desk) in
+    bound_text now Q s query _ (λ plan binds. planned_text now tape parties Q s number query _ plan binds (λ ticket text few next is.
+    subst (λ (desk : Option DeskHeld). Texts (with_desk told desk) (λ more after. Q (text ++ more) after) (queries_script tape parties s (number + 1) queries)) (sym (given_next told.desk before ticket few next))
+    (queries_text tape parties told (λ more after. Q (text ++ more) after) s (number + 1) (before + 1) queries (λ more are.
     subst (λ (count : ℕ). Q (text ++ more) (with_desk told (with_given count told.desk))) (sym (plus_one before (length queries)))
     (done (text ++ more) (ticket, text, more, refl, is_given told.desk before ticket few next, is, are))))))
 
-module _ (told : Told) (words : List (List ℕ)) where
+module _ (tape : Tape) (told : Told) (words : List (List ℕ)) where
   answered_text : (table : AskedTable told words) (rows : List (List Value)) → AreRowsIn (table_of table.load.s table.at) table.load.csv (Ok rows) → (answer : Answer) →
       Gives told (Batch table.load.site (table_of table.load.s table.at) table.load.number rows) answer →
-      Texts (after told (Batch table.load.site (table_of table.load.s table.at) table.load.number rows) answer) (IsDone told words) (answered (table_of table.load.s table.at) table.load.number (length rows) (λ text. Say text Finish) answer)
+      Texts (after told (Batch table.load.site (table_of table.load.s table.at) table.load.number rows) answer) (IsDone tape told words) (answered (table_of table.load.s table.at) table.load.number (length rows) (λ text. Say text Finish) answer)
   answered_text table rows are New says = inr (inr (record { table = table; rows = rows; are = are; loaded = inl (says, append-nil _, refl) }))
   answered_text table rows are Again says = inr (inr (record { table = table; rows = rows; are = are; loaded = inr (says, append-nil _, refl) }))
   answered_text table rows are (Differs at) says = tt
   answered_text table rows are OverRows says = tt
   answered_text table rows are (OverPer column) says = tt
 
-  load_text : (load : AskedLoad told words) (at : Option ℕ) → table_number load.table load.s ≡ at → Texts told (IsDone told words) (load_table load.site load.table load.number load.s load.csv at)
+  load_text : (load : AskedLoad told words) (at : Option ℕ) → table_number load.table load.s ≡ at → Texts told (IsDone tape told words) (load_table load.site load.table load.number load.s load.csv at)
   load_text load None e = tt
-  load_text load (Some at) e = λ read is. text_read told (IsDone told words) status.Csv _ (AreRowsIn (table_of load.s at) load.csv) read is
+  load_text load (Some at) e = λ read is. text_read told (IsDone tape told words) status.Csv _ (AreRowsIn (table_of load.s at) load.csv) read is
       (λ rows are answer says. answered_text (record { load = load; at = at; is = e }) rows are answer says)
 
-  begun_text : (s : SchemaModel) (queries : List Query) → ((text : List ℕ) → AreAnswers told s 1 0 queries text → IsDone told words text (with_desk told (with_given (length queries) told.desk))) →
-      Texts told (IsDone told words) (queries_script s 1 queries)
-  begun_text s queries done = subst (λ (desk : Option DeskHeld). Texts (with_desk told desk) (IsDone told words) (queries_script s 1 queries)) (none_given told.desk)
-      (queries_text told (IsDone told words) s 1 0 queries (λ text answers. subst (λ (count : ℕ). IsDone told words text (with_desk told (with_given count told.desk))) (none_before (length queries)) (done text answers)))
+  begun_text : (parties : List Party) (s : SchemaModel) (queries : List Query) → ((text : List ℕ) → AreAnswers tape parties told s 1 0 queries text → IsDone tape told words text (with_desk told (with_given (length queries) told.desk))) →
+      Texts told (IsDone tape told words) (queries_script tape parties s 1 queries)
+  begun_text parties s queries done = subst (λ (desk : Option DeskHeld). Texts (with_desk told desk) (IsDone tape told words) (queries_script tape parties s 1 queries)) (none_given told.desk)
+      (queries_text tape parties told (IsDone tape told words) s 1 0 queries (λ text answers. subst (λ (count : ℕ). IsDone tape told words text (with_desk told (with_given count told.desk))) (none_before (length queries)) (done text answers)))
 
-  task_text : (task : Option Task) → task_of words ≡ task → Texts told (IsDone told words) (task_script task)
+  task_text : (task : Option Task) → task_of words ≡ task → Texts told (IsDone tape told words) (task_script tape task)
   task_text None e = tt
-  task_text (Some (Run file workers)) e = text_inputs told (IsDone told words) file _ (λ s sql inputs read is.
-      text_read told (IsDone told words) status.Sql _ (AreQueriesIn sql) read is (λ queries are. begun_text s queries
+  task_text (Some (Run file workers parties)) e = text_inputs told (IsDone tape told words) file _ (λ s sql inputs read is.
+      text_read told (IsDone tape told words) status.Sql _ (AreQueriesIn sql) read is (λ queries are. begun_text parties s queries
       (λ text answers. inl (record {
-        all = record { run = record { file = file; workers = workers; s = s; sql = sql; asked = e; inputs = inputs }; queries = queries; are = are };
+        all = record { run = record { file = file; workers = workers; parties = parties; s = s; sql = sql; asked = e; inputs = inputs }; queries = queries; are = are };
         answers = answers;
         given = refl;
       }))))
-  task_text (Some (Check file)) e = text_inputs told (IsDone told words) file _ (λ s sql inputs read is.
-      text_read told (IsDone told words) status.Sql _ (AreQueriesIn sql) read is (λ queries are. reports_text told (IsDone told words) s 1 queries (λ text. Say (text_of s ++ text) Finish)
+  task_text (Some (Check file)) e = text_inputs told (IsDone tape told words) file _ (λ s sql inputs read is.
+      text_read told (IsDone tape told words) status.Sql _ (AreQueriesIn sql) read is (λ queries are. reports_text told (IsDone tape told words) s 1 queries (λ text. Say (text_of s ++ text) Finish)
       (λ text reported. inr (inl (record {
         all = record { check = record { file = file; s = s; sql = sql; asked = e; inputs = inputs }; queries = queries; are = are };
         reports = text;
@@ -417,14 +421,14 @@ module _ (told : Told) (words : List (List ℕ)) where
         printed = append-nil _;
         kept = refl;
       })))))
-  task_text (Some (Load site table number file)) e = text_inputs told (IsDone told words) file _ (λ s csv inputs.
+  task_text (Some (Load site table number file)) e = text_inputs told (IsDone tape told words) file _ (λ s csv inputs.
       load_text (record { site = site; table = table; number = number; file = file; s = s; csv = csv; asked = e; inputs = inputs }) (table_number table s) refl)
 
-  pub does : (rose : Who → Type 0) (out : List ℕ) (result : Status) (now : Told) → Follows rose told (script words) out result now → result ≡ status.Done → IsDone told words out now
-  does rose out result now a done = done_text questions rose told (IsDone told words) (script words) out result now (all_plain rose told words) (task_text (task_of words) refl) a done
+  pub does : (rose : Who → Type 0) (out : List ℕ) (result : Status) (now : Told) → Follows rose told (script tape words) out result now → result ≡ status.Done → IsDone tape told words out now
+  does rose out result now a done = done_text questions rose told (IsDone tape told words) (script tape words) out result now (all_plain tape rose told words) (task_text (task_of words) refl) a done
 
 -- where the status is Memory, memory ran out on the way
-pub spent_end : (a b c : WorldModel) (words : List (List ℕ)) (end : End) (result : Status) → Along a b (script words) end →
+pub spent_end : (tape : Tape) (a b c : WorldModel) (words : List (List ℕ)) (end : End) (result : Status) → Along a b (script tape words) end →
     Wrote b.written c.written (λ text. Closes (λ _. RoseIn b.counts c.counts Sink) end text result) → result ≡ status.Memory → end ≡ NoMemory
-spent_end a b c words end result w closes e = memory_end questions (RoseIn a.counts b.counts) (λ _. RoseIn b.counts c.counts Sink) a.told (script words) w.out closes.0 end result b.told
-    (all_plain (RoseIn a.counts b.counts) a.told words) w.goes closes.2 e
+spent_end tape a b c words end result w closes e = memory_end questions (RoseIn a.counts b.counts) (λ _. RoseIn b.counts c.counts Sink) a.told (script tape words) w.out closes.0 end result b.told
+    (all_plain tape (RoseIn a.counts b.counts) a.told words) w.goes closes.2 e

@@ -1,3 +1,4 @@
 pub mod Tasks
 pub mod Runs
 pub mod Causes
+mod Tapes

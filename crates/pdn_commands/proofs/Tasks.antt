@@ -3,14 +3,16 @@ use Rattle.std.proofs.Common.{◌≡◌, ℕ, List, sym, subst, Some, Option}
 use Rattle.std.specs.Prelude.{false}
 use Rattle.pdn_base.specs.declared.site.Site.{Site}
 use Rattle.pdn_base.specs.declared.site.Site.TheVariants.{A, B}
+use Rattle.pdn_view.specs.declared.view.Party.{Party}
+use Rattle.pdn_broker.specs.Runs.{Tape}
 use Rattle.pdn_query.specs.Questions.{Told, OnlyAt}
 use Rattle.pdn_query.specs.Walk.{End, Along}
 use Rattle.pdn_query.specs.World.{WorldModel}
 use Rattle.pdn_commands.specs.Commands.{Task, Run, Load, task_of, task_script, script, loads, runs}
 
 -- the script is that of the task that the words ask for
-pub asked : {a b : WorldModel} {end : End} (words : List (List ℕ)) (task : Option Task) → task ≡ task_of words → Along a b (task_script task) end → Along a b (script words) end
-asked {a} {b} {end} words task is w = subst (λ (t : Option Task). Along a b (task_script t) end) is w
+pub asked : {a b : WorldModel} {end : End} (tape : Tape) (words : List (List ℕ)) (task : Option Task) → task ≡ task_of words → Along a b (task_script tape task) end → Along a b (script tape words) end
+asked {a} {b} {end} tape words task is w = subst (λ (t : Option Task). Along a b (task_script tape t) end) is w
 
 -- ---- which site a load changes
 
@@ -25,8 +27,8 @@ module _ (table : List ℕ) (number : ℕ) (file : List ℕ) (task : Option Task
 
 -- ---- whether tickets may be taken
 
-pub run_takes : {X : Type 0} (file : List ℕ) (workers : ℕ) (task : Option Task) → Some (Run file workers) ≡ task → runs task ≡ false → X
-run_takes file workers task e off = let on : runs (Some (Run file workers)) ≡ false = subst (λ (t : Option Task). runs t ≡ false) (sym e) off in cc
+pub run_takes : {X : Type 0} (file : List ℕ) (workers : ℕ) (parties : List Party) (task : Option Task) → Some (Run file workers parties) ≡ task → runs task ≡ false → X
+run_takes file workers parties task e off = let on : runs (Some (Run file workers parties)) ≡ false = subst (λ (t : Option Task). runs t ≡ false) (sym e) off in cc
 
 pub load_takes_none : (site : Site) (old new : Told) → OnlyAt site old new → new.desk ≡ old.desk
 load_takes_none A old new only = only.2

@@ -9,6 +9,8 @@ use Rattle.pdn_base.specs.declared.status.Status.TheVariants as status
 use Rattle.pdn_base.specs.declared.status.Who.{Who}
 use Rattle.pdn_base.specs.declared.value.Value.{Value}
 use Rattle.pdn_base.specs.Operators.{Rows}
+use Rattle.pdn_view.specs.declared.view.Party.{Party}
+use Rattle.pdn_broker.specs.Runs.{Tape}
 use Rattle.pdn_schema.specs.Models.{SchemaModel, table_of}
 use Rattle.pdn_schema.specs.Reading.{Says}
 use Rattle.pdn_schema.specs.Rows.{IsRefused}
@@ -26,7 +28,7 @@ use Rattle.pdn_keeper.specs.Batches.{batch_held}
 
 -- the file that a task reads besides the schema
 abbrev pub file_of : Task → List ℕ
-file_of (Run file workers) = file
+file_of (Run file workers parties) = file
 file_of (Check file) = file
 file_of (Load site table number file) = file
 
@@ -55,9 +57,10 @@ pub record Inputs (told : Option (List ℕ → Option (List ℕ))) (name : List 
 pub record AskedRun (told : Told) (words : List (List ℕ)) : Type 0 where
   pub file : List ℕ
   pub workers : ℕ
+  pub parties : List Party
   pub s : SchemaModel
   pub sql : List ℕ
-  pub asked : task_of words ≡ Some (Run file workers)
+  pub asked : task_of words ≡ Some (Run file workers parties)
   pub inputs : Inputs told.files file s sql
 
 -- The SQL file besides says these queries.
@@ -211,10 +214,10 @@ Cause rose told words other = ⊥
 
 -- ---- what Done comes with
 
--- the queries' answers; what the sites keep is as it was, and the desk gave a ticket for each query
-pub record IsRun (told : Told) (words : List (List ℕ)) (text : List ℕ) (now : Told) : Type 0 where
+-- the queries' answers, each with the views that are asked for; what the sites keep is as it was, and the desk gave a ticket for each query
+pub record IsRun (tape : Tape) (told : Told) (words : List (List ℕ)) (text : List ℕ) (now : Told) : Type 0 where
   pub all : AskedQueries told words
-  pub answers : AreAnswers told all.run.s 1 0 all.queries text
+  pub answers : AreAnswers tape all.run.parties told all.run.s 1 0 all.queries text
   pub given : now ≡ with_desk told (with_given (length all.queries) told.desk)
 
 -- the schema and the queries' reports, and the keepers as they were
@@ -237,7 +240,7 @@ pub record IsLoaded (told : Told) (words : List (List ℕ)) (text : List ℕ) (n
   pub are : AreRowsIn (table_of table.load.s table.at) table.load.csv (Ok rows)
   pub loaded : IsLoadedBy table rows text now
 
--- What is printed is the answer of each query over the union of both sites' rows, the schema with each query's report, or the line of the
--- batch.
-abbrev pub IsDone : Told → List (List ℕ) → List ℕ → Told → Type 0
-IsDone told words text now = IsRun told words text now ⊎ IsChecked told words text now ⊎ IsLoaded told words text now
+-- What is printed is the answer of each query over the union of both sites' rows, with the views that are asked for on this tape, the schema
+-- with each query's report, or the line of the batch.
+abbrev pub IsDone : Tape → Told → List (List ℕ) → List ℕ → Told → Type 0
+IsDone tape told words text now = IsRun tape told words text now ⊎ IsChecked told words text now ⊎ IsLoaded told words text now

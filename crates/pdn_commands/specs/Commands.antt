@@ -1,5 +1,5 @@
 -- What the words of a command line ask for, and what is then to be done.
-use Rattle.std.specs.Prelude.{ℕ, List, [], ◌∷◌, Bool, true, false, ◌&&◌, ◌||◌, not, nat_le, nat_lt, ◌==◌, length, slice_index, Option, Some, None, codes, if◌then◌else◌}
+use Rattle.std.specs.Prelude.{◌≡◌, ℕ, List, [], ◌∷◌, Bool, true, false, ◌&&◌, ◌||◌, not, nat_le, nat_lt, ◌==◌, length, slice_index, Option, Some, None, codes, if◌then◌else◌}
 use Rattle.std.specs.Char.{is_ascii_digit}
 use Rattle.std.specs.List.{list_all}
 use Rattle.std.specs.Str.{bytes_eq}
@@ -8,7 +8,11 @@ use Rattle.pdn_base.specs.Numbers.{number_of, value_of}
 use Rattle.pdn_base.specs.declared.site.Site.{Site}
 use Rattle.pdn_base.specs.declared.site.Site.TheVariants.{A, B}
 use Rattle.pdn_base.specs.declared.status.Status.TheVariants as status
+use Rattle.pdn_view.specs.declared.view.Party.{Party}
+use Rattle.pdn_view.specs.declared.view.Party.TheVariants as party
+use Rattle.pdn_broker.specs.Runs.{Tape}
 use Rattle.pdn_query.specs.Script.{Script, refuse}
+use Rattle.pdn_query.specs.Showing.{all_parties, parties_of}
 use Rattle.pdn_commands.specs.Script.{with_inputs, with_queries, load_script}
 use Rattle.pdn_commands.specs.Running.{queries_script}
 use Rattle.pdn_commands.specs.Checking.{report_script}
@@ -16,13 +20,13 @@ use Rattle.pdn_commands.specs.declared.command.Command.{Command}
 use Rattle.pdn_commands.specs.declared.command.Command.TheVariants as command
 
 pub data Task : Type 0 where
-  Run : List ℕ → ℕ → Task  -- the SQL file, and how many workers
+  Run : List ℕ → ℕ → List Party → Task  -- the SQL file, how many workers, and whose views are shown
   Check : List ℕ → Task  -- the SQL file
   Load : Site → List ℕ → ℕ → List ℕ → Task  -- at this site, of the table of this name, the batch of this number, from the CSV file
 
 -- what a command of the code asks for
 abbrev pub seen : Command → Task
-seen (command.Run file workers) = Run file.now workers.count
+seen (command.Run file workers show) = Run file.now workers.count (parties_of show)
 seen (command.Check file) = Check file.now
 seen (command.Load site table batch file) = Load site table.now batch file.now
 
@@ -47,9 +51,19 @@ abbrev pub load_of : Option Site → List ℕ → Option ℕ → List ℕ → Op
 load_of (Some site) table (Some number) file = Some (Load site table number file)
 load_of site table number file = None
 
--- `run <sqlfile> <workers>`
+-- `a`, `b`, `broker` or `all`
+abbrev pub shown_of : List ℕ → Option (List Party)
+shown_of word = if bytes_eq word (codes "a") then Some (party.A ∷ []) else if bytes_eq word (codes "b") then Some (party.B ∷ [])
+    else if bytes_eq word (codes "broker") then Some (party.Broker ∷ []) else if bytes_eq word (codes "all") then Some all_parties else None
+
+abbrev pub run_of : List ℕ → Option ℕ → Option (List Party) → Option Task
+run_of file (Some workers) (Some parties) = Some (Run file workers parties)
+run_of file workers parties = None
+
+-- `run <sqlfile> <workers>`, and behind it `show <a, b, broker or all>`
 abbrev pub run_task : List (List ℕ) → Option Task
-run_task (file ∷ workers ∷ []) = option_map (Run file) (workers_of workers)
+run_task (file ∷ workers ∷ []) = run_of file (workers_of workers) (Some [])
+run_task (file ∷ workers ∷ verb ∷ word ∷ []) = if bytes_eq verb (codes "show") then run_of file (workers_of workers) (shown_of word) else None
 run_task words = None
 
 -- `check <sqlfile>`
@@ -75,28 +89,40 @@ same_site site other = false
 -- a load at this site is asked for
 abbrev pub loads : Site → Option Task → Bool
 loads site None = false
-loads site (Some (Run file workers)) = false
+loads site (Some (Run file workers parties)) = false
 loads site (Some (Check file)) = false
 loads site (Some (Load at table number file)) = same_site site at
 
 -- a run is asked for
 abbrev pub runs : Option Task → Bool
 runs None = false
-runs (Some (Run file workers)) = true
+runs (Some (Run file workers parties)) = true
 runs (Some (Check file)) = false
 runs (Some (Load at table number file)) = false
 
-abbrev pub run_script : List ℕ → Script
-run_script file = with_inputs file (λ s sql. with_queries sql (queries_script s 1))
+-- whose views are asked for
+abbrev pub shown : Option Task → List Party
+shown None = []
+shown (Some (Run file workers parties)) = parties
+shown (Some (Check file)) = []
+shown (Some (Load at table number file)) = []
+
+abbrev pub run_script : Tape → List Party → List ℕ → Script
+run_script tape parties file = with_inputs file (λ s sql. with_queries sql (queries_script tape parties s 1))
 
 abbrev pub check_script : List ℕ → Script
 check_script file = with_inputs file (λ s sql. with_queries sql (report_script s))
 
-abbrev pub task_script : Option Task → Script
-task_script None = refuse status.Words
-task_script (Some (Run file workers)) = run_script file
-task_script (Some (Check file)) = check_script file
-task_script (Some (Load site table number file)) = load_script site table number file
+abbrev pub task_script : Tape → Option Task → Script
+task_script tape None = refuse status.Words
+task_script tape (Some (Run file workers parties)) = run_script tape parties file
+task_script tape (Some (Check file)) = check_script file
+task_script tape (Some (Load site table number file)) = load_script site table number file
 
-abbrev pub script : List (List ℕ) → Script
-script words = task_script (task_of words)
+-- what the words ask for, on this tape
+abbrev pub script : Tape → List (List ℕ) → Script
+script tape words = task_script tape (task_of words)
+
+-- Where no views are asked for, the script is the same on every tape.
+abbrev pub SameOnTapes : Type 0
+SameOnTapes = (tape other : Tape) (words : List (List ℕ)) → shown (task_of words) ≡ [] → script tape words ≡ script other words

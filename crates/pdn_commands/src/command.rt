@@ -1,22 +1,24 @@
 //! The words of the command line.
-ghost use Rattle.std.specs.Prelude.{◌≡◌, ◌≤◌, ◌∷◌, map, length, IsTrue};
+ghost use Rattle.std.specs.Prelude.{◌≡◌, ◌≤◌, ◌∷◌, Some, map, length, IsTrue};
 ghost use Rattle.std.specs.Char.{is_ascii_digit};
 ghost use Rattle.std.specs.List.{list_all};
 ghost use Rattle.std.specs.String.{string_bytes};
 ghost use Rattle.std.specs.Option.{option_map};
 ghost use Rattle.pdn_base.specs.Numbers.{value_of};
-ghost use Rattle.pdn_commands.specs.Commands.{task_of, run_task, check_task, load_task, workers_of, site_of, batch_of, seen};
+ghost use Rattle.pdn_commands.specs.Commands.{task_of, run_task, check_task, load_task, workers_of, shown_of, site_of, batch_of, seen};
+ghost use Rattle.pdn_query.specs.Showing.{parties_of};
 
 use pdn_base::{Site, number};
-use pdn_query::Workers;
+use pdn_query::{Show, Workers};
 
 /// What a command line asks for.
 #[derive(Clone, Copy, Debug)]
 pub enum Command<'a> {
-    /// `run <sqlfile> <workers>`
+    /// `run <sqlfile> <workers>`, and behind it `show <a, b, broker or all>`
     Run {
         file: &'a str,
         workers: Workers,
+        show: Option<Show>,
     },
     /// `check <sqlfile>`
     Check {
@@ -53,7 +55,26 @@ fn read_run(words: &[String]) -> Option<Command<'_>>
         [file, workers] => Some(Command::Run {
             file: file.as_str(),
             workers: read_workers(workers.as_bytes())?,
+            show: None,
         }),
+        [file, workers, verb, word] if verb.as_str() == "show" => Some(Command::Run {
+            file: file.as_str(),
+            workers: read_workers(workers.as_bytes())?,
+            show: Some(read_show(word.as_str())?),
+        }),
+        _ => None,
+    }
+}
+
+// Whose views are shown.
+fn read_show(word: &str) -> Option<Show>
+    ensures { option_map (λ show. parties_of (Some show)) result ≡ shown_of word.now }
+{
+    match word {
+        "a" => Some(Show::A),
+        "b" => Some(Show::B),
+        "broker" => Some(Show::Broker),
+        "all" => Some(Show::All),
         _ => None,
     }
 }

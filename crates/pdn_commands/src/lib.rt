@@ -4,9 +4,11 @@
 mod check;
 mod command;
 mod inputs;
+mod laws;
 mod load;
 mod run;
 mod top;
 
+pub use laws::scripts_are_the_same_on_every_tape;
 pub use pdn_query::{Outside, World};
 pub use top::pdn;

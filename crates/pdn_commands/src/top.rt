@@ -7,7 +7,7 @@ ghost use Rattle.pdn_commands.specs.Causes.{Cause, IsDone};
 ghost use Rattle.pdn_commands.specs.Commands.{script, task_of, loads, runs};
 ghost use Rattle.pdn_query.specs.Questions.{OnlyDesk};
 ghost use Rattle.pdn_query.specs.DeskCalls.{AsksTickets};
-ghost use Rattle.pdn_query.specs.Walk.{Along, Answered, NoMemory, Wrote, Clears, IsDue};
+ghost use Rattle.pdn_query.specs.Walk.{Along, Answered, NoMemory, Wrote, Clears, HasReason, IsDue};
 ghost use Rattle.pdn_query.specs.World.{RoseIn, NotFallen};
 ghost use Rattle.pdn_script.specs.Stops.{end_of};
 
@@ -23,9 +23,9 @@ use pdn_script::{Stop, refused};
 use std::alloc::Global;
 use std::thread::Threads;
 
-/// Does what the words of a command line say, over these files and the rows that the sites keep, and puts the answers or
-/// the line of the first refusal on the sink. What is put is the same whatever words the dealer deals, and by
-/// however many workers.
+/// Does what the words of a command line say, over these files and the rows that the sites keep, and puts the answers, each with
+/// the views that are asked for, or the line of the first refusal on the sink. Without `show` what is put is the same whatever words
+/// the dealer deals (`scripts_are_the_same_on_every_tape`). It is the same by however many workers.
 pub fn pdn<R: Threads + Sync, W: Outside, D: Deal + Watch>(
     rt: &R,
     alloc: Global,
@@ -36,15 +36,20 @@ pub fn pdn<R: Threads + Sync, W: Outside, D: Deal + Watch>(
     // What is put, answered and kept is what the script says, but for want of memory and for faults of an object whose
     // count rose.
     ensures answers { Answered (W.state world.old) (W.state world.new)
-        (script (map string_bytes words.now)) result }
+        (script (D.tape deal.now) (map string_bytes words.now)) result }
 
     // Done comes only with the answer of each query over the rows of both sites, the schema with the report of each query, or
     // the line of the batch that is then kept.
     ensures counted { let old = W.state world.old in let new = W.state world.new in
         result ≡ Status.Done → Wrote old.written new.written (λ text.
-        IsDone old.told (map string_bytes words.now) text new.told) }
+        IsDone (D.tape deal.now) old.told (map string_bytes words.now) text new.told) }
 
-    // Each status comes only where its cause stands, and no status without one.
+    // A refusal comes only where the script comes to it, over what the objects tell.
+    ensures reason { let old = W.state world.old in
+        HasReason (RoseIn old.counts (W.state world.new).counts) old.told
+        (script (D.tape deal.now) (map string_bytes words.now)) result }
+
+    // Each status comes only where its cause stands, and no status without one: in each command's own words.
     ensures cause { let old = W.state world.old in
         Cause (RoseIn old.counts (W.state world.new).counts) old.told
         (map string_bytes words.now) result }
@@ -53,11 +58,11 @@ pub fn pdn<R: Threads + Sync, W: Outside, D: Deal + Watch>(
     ensures due { let old = W.state world.old in let new = W.state world.new in
         ((who : Who) → RoseIn old.counts new.counts who → ⊥) → (result ≡ Status.Memory)
         ⊎ Wrote old.written new.written (λ text.
-        IsDue old.told (script (map string_bytes words.now)) result text new.told) }
+        IsDue old.told (script (D.tape deal.now) (map string_bytes words.now)) result text new.told) }
 
     // Where nothing is to be refused and no count rose, all is answered, unless memory runs out.
     ensures complete { let old = W.state world.old in
-        Clears old.told (script (map string_bytes words.now))
+        Clears old.told (script (D.tape deal.now) (map string_bytes words.now))
         → ((who : Who) → RoseIn old.counts (W.state world.new).counts who → ⊥)
         → (result ≡ Status.Done) ⊎ (result ≡ Status.Memory) }
 
@@ -88,7 +93,7 @@ fn perform<R: Threads + Sync, W: Outside, D: Deal + Watch>(
     deal: &D,
 ) -> Status
     ensures answers { Answered (W.state world.old) (W.state world.new)
-        (script (map string_bytes words.now)) result }
+        (script (D.tape deal.now) (map string_bytes words.now)) result }
     ensures kept_a { loads A (task_of (map string_bytes words.now)) ≡ false
         → (W.state world.new).told.a ≡ (W.state world.old).told.a }
     ensures kept_b { loads B (task_of (map string_bytes words.now)) ≡ false
@@ -112,7 +117,7 @@ fn follow<R: Threads + Sync, W: Outside, D: Deal + Watch>(
     deal: &D,
 ) -> Result<(), Stop>
     ensures goes { Along (W.state world.old) (W.state world.new)
-        (script (map string_bytes words.now)) (end_of result) }
+        (script (D.tape deal.now) (map string_bytes words.now)) (end_of result) }
     ensures kept_a { loads A (task_of (map string_bytes words.now)) ≡ false
         → (W.state world.new).told.a ≡ (W.state world.old).told.a }
     ensures kept_b { loads B (task_of (map string_bytes words.now)) ≡ false
@@ -123,9 +128,15 @@ fn follow<R: Threads + Sync, W: Outside, D: Deal + Watch>(
         → (W.state world.new).told.desk ≡ (W.state world.old).told.desk }
 {
     match read_command(words) {
-        Some(Command::Run { file, workers }) => {
+        Some(
+            Command::Run {
+                file,
+                workers,
+                show,
+            },
+        ) => {
             let crew = Crew { rt, deal, workers };
-            run(alloc, file, world, &crew)
+            run(alloc, file, show, world, &crew)
         }
         Some(Command::Check { file }) => check(alloc, file, world),
         Some(

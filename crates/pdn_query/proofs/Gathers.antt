@@ -12,10 +12,12 @@ use Rattle.pdn_tree.specs.declared.node.Node.{Node}
 use Rattle.pdn_tree.specs.declared.plan.OutColumn.{OutColumn}
 use Rattle.pdn_site.specs.Models.{UnitModel}
 use Rattle.pdn_site.specs.Compiling.{Compiled}
+use Rattle.pdn_view.specs.declared.view.Party.{Party}
 use Rattle.pdn_broker.specs.Prepared.{PreparedModel}
+use Rattle.pdn_broker.specs.Runs.{Tape}
 use Rattle.pdn_script.specs.Stops.{IsRefusal, stop_of}
 use Rattle.pdn_script.specs.declared.stop.Stop.{Stop}
-use Rattle.pdn_query.specs.Answering.{scans, asking_if, asking, wrong_column, or_wrong, judging, units_over, or_large, judging_both, ticketing, answer_text, AllValid}
+use Rattle.pdn_query.specs.Answering.{scans, asking_if, asking, wrong_column, or_wrong, judging, units_over, or_large, judging_both, ticketing, answer_text, shown_text, AllValid}
 use Rattle.pdn_query.specs.Gathering.{WrongRows, WrongTable, LargeUnit, NotReady, AreReady}
 use Rattle.pdn_query.specs.Questions.{Valid}
 use Rattle.pdn_query.specs.Script.{Script}
@@ -103,35 +105,40 @@ module _ (w : WorldModel) where
   all_judged : (s : SchemaModel) (site : Site) (tables : List Rows) (next : Script) → AreValid s tables → Leads w w (judging site 0 s.tables tables next) next
   all_judged s site tables next v = judged site 0 s.tables tables next (all_valid s.tables tables v.each)
 
-  units_on : (next : Script) (units : List UnitModel) (compiled : Compiled) → compiled ≡ Ok units → Leads w w (or_large next compiled) next
-  units_on next units compiled e = subst (λ (c : Compiled). Leads w w (or_large next c) next) (sym e) (begun w next)
+  units_on : (next : List UnitModel → Script) (units : List UnitModel) (compiled : Compiled) → compiled ≡ Ok units → Leads w w (or_large next compiled) (next units)
+  units_on next units compiled e = subst (λ (c : Compiled). Leads w w (or_large next c) (next units)) (sym e) (begun w (next units))
 
-  large : (next : Script) (s : SchemaModel) (root : Node) (a b : List Rows) (stop : Stop) → LargeUnit s root a b stop → Along w w (or_large next (units_over s root a b)) (stop_of stop)
+  large : (next : List UnitModel → Script) (s : SchemaModel) (root : Node) (a b : List Rows) (stop : Stop) → LargeUnit s root a b stop → Along w w (or_large next (units_over s root a b)) (stop_of stop)
   large next s root a b stop u = subst (λ (c : Compiled). Along w w (or_large next c) (stop_of stop)) (sym u.passes) (refused w [] [] (status.TooLarge u.limit u.unit) stop u.refused)
 
   module _ (s : SchemaModel) (root : Node) (a b : List Rows) where
     -- what is ready
-    ready_on : (next : Script) (p : PreparedModel) → AreReady s root a b p → Leads w w (judging_both s root a b next) next
+    ready_on : (next : List UnitModel → Script) (p : PreparedModel) (m : AreReady s root a b p) → Leads w w (judging_both s root a b next) (next m.units)
     ready_on next p m = leads_on (all_judged s A a _ m.valid_a) (leads_on (all_judged s B b _ m.valid_b) (units_on next m.units (units_over s root a b) m.fits))
 
     -- what isn't
-    unready : (next : Script) (stop : Stop) → length a ≡ length s.tables → length b ≡ length s.tables → NotReady s root a b stop → Along w w (judging_both s root a b next) (stop_of stop)
+    unready : (next : List UnitModel → Script) (stop : Stop) → length a ≡ length s.tables → length b ≡ length s.tables → NotReady s root a b stop → Along w w (judging_both s root a b next) (stop_of stop)
     unready next stop ea eb (inl t) = wrong_table s A a _ stop ea t
     unready next stop ea eb (inr (inl (va, t))) = leads_along (all_judged s A a _ va) (wrong_table s B b _ stop eb t)
     unready next stop ea eb (inr (inr (inl (va, vb, u)))) = leads_along (all_judged s A a _ va) (leads_along (all_judged s B b _ vb) (large next s root a b stop u))
     unready next stop ea eb (inr (inr (inr short))) = halted w (judging_both s root a b next) (stop_of stop) short
 
     -- made ready, or refused
-    pub gathered : (next : List Rows → List Rows → Script) (result : Result PreparedModel Stop) → length a ≡ length s.tables → length b ≡ length s.tables →
-        MatchResult result (AreReady s root a b) (NotReady s root a b) → Came w w (judging_both s root a b (next a b)) (λ p. next p.a.tables p.b.tables) result
-    gathered next (Ok p) ea eb ready = rw (ready.made.a, ready.made.b) (ready_on (next a b) p ready)
+    pub gathered : (next : List Rows → List Rows → List UnitModel → Script) (result : Result PreparedModel Stop) → length a ≡ length s.tables → length b ≡ length s.tables →
+        MatchResult result (AreReady s root a b) (NotReady s root a b) → Came w w (judging_both s root a b (next a b)) (λ p. next p.a.tables p.b.tables p.units) result
+    gathered next (Ok p) ea eb ready = subst (λ (q : PreparedModel). Leads w w (judging_both s root a b (next a b)) (next q.a.tables q.b.tables q.units)) (sym ready.made) (ready_on (next a b) p ready)
     gathered next (Err stop) ea eb not = unready (next a b) stop ea eb not
 
 -- ---- tickets
 
--- a ticket is taken, and the text is the answer with it
-pub given_text : (w now : WorldModel) (next : List ℕ → Script) (number ticket : ℕ) (columns : List OutColumn) (means rows : Rows) (text : List ℕ) → rows ≡ means → text ≡ answer_text number ticket columns rows →
-    ((after : ℕ → Script) → Leads w now (ticketing after) (after ticket)) → Leads w now (ticketing (λ given. next (answer_text number given columns means))) (next text)
-given_text w now next number ticket columns means rows text is printed takes =
-    subst (λ (xs : List ℕ). Leads w now (ticketing (λ given. next (answer_text number given columns means))) (next xs)) (sym (printed ∙ ap (answer_text number ticket columns) is))
-    (takes (λ given. next (answer_text number given columns means)))
+-- what is put with this ticket: the answer, and the views of what was made ready
+module _ (number : ℕ) (columns : List OutColumn) (parties : List Party) (tape : Tape) where
+  abbrev whole : PreparedModel → Rows → ℕ → List ℕ
+  whole p rows ticket = answer_text number ticket columns rows ++ shown_text parties tape p ticket
+
+  -- a ticket is taken, and the text is the whole with it
+  pub given_text : (w now : WorldModel) (next : List ℕ → Script) (ticket : ℕ) (made p : PreparedModel) (means rows : Rows) (text : List ℕ) → p ≡ made → rows ≡ means → text ≡ whole p rows ticket →
+      ((after : ℕ → Script) → Leads w now (ticketing after) (after ticket)) → Leads w now (ticketing (λ given. next (whole made means given))) (next text)
+  given_text w now next ticket made p means rows text form is printed takes =
+      subst (λ (xs : List ℕ). Leads w now (ticketing (λ given. next (whole made means given))) (next xs))
+      (sym (printed ∙ ap (λ (rs : Rows). whole p rs ticket) is ∙ ap (λ (q : PreparedModel). whole q means ticket) form)) (takes (λ given. next (whole made means given)))

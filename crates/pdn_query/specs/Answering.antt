@@ -23,6 +23,11 @@ use Rattle.pdn_level.specs.Levels.{segments_of}
 use Rattle.pdn_site.specs.Models.{UnitModel}
 use Rattle.pdn_site.specs.Compiling.{Compiled, compiled}
 use Rattle.pdn_site.specs.NetMeaning.{site_dirs}
+use Rattle.pdn_view.specs.declared.view.Party.{Party}
+use Rattle.pdn_view.specs.Lines.{view_text}
+use Rattle.pdn_broker.specs.Runs.{Tape}
+use Rattle.pdn_broker.specs.Prepared.{PreparedModel, prepared_of}
+use Rattle.pdn_broker.specs.Views.{view_for}
 use Rattle.pdn_keeper.specs.Batches.{BatchHeld}
 use Rattle.pdn_query.specs.Questions.{Kept, Valid, Ticket, Keeps, IsBound}
 use Rattle.pdn_query.specs.Script.{Script, Refuse, Say, Ask, refuse, binding, column_name}
@@ -78,9 +83,9 @@ judging site at (t ∷ ts) (rows ∷ tables) next = Ask (Valid t rows) (or_wrong
 abbrev pub units_over : SchemaModel → Node → List Rows → List Rows → Compiled
 units_over s root a b = compiled s root (segments_of s root []) (site_dirs a b (segments_of s root []))
 
--- what follows, or the refusal that names the limit and the unit
-abbrev pub or_large : Script → Compiled → Script
-or_large next (Ok units) = next
+-- what follows the units, or the refusal that names the limit and the unit
+abbrev pub or_large : (List UnitModel → Script) → Compiled → Script
+or_large next (Ok units) = next units
 or_large next (Err passed) = refuse (status.TooLarge passed.0 passed.1)
 
 -- what follows the next ticket, or the refusal where none is left
@@ -124,26 +129,30 @@ names_line columns = line (by_commas (map (λ (c : OutColumn). c.name) columns))
 abbrev pub answer_text : ℕ → ℕ → List OutColumn → Rows → List ℕ
 answer_text query ticket columns rows = head_line query ticket (length rows) ++ names_line columns ++ flat_map row_line rows
 
+-- the views that these parties have of a query, one after the other
+abbrev pub shown_text : List Party → Tape → PreparedModel → ℕ → List ℕ
+shown_text parties tape p ticket = flat_map (λ party. view_text (view_for party p tape ticket)) parties
+
 -- ---- what is asked and said
 
--- both sites' rows are judged, A's first, and then the units over them
-abbrev pub judging_both : SchemaModel → Node → List Rows → List Rows → Script → Script
+-- both sites' rows are judged, A's first, and then the units over them; what follows are these units
+abbrev pub judging_both : SchemaModel → Node → List Rows → List Rows → (List UnitModel → Script) → Script
 judging_both s root a b next = judging A 0 s.tables a (judging B 0 s.tables b (or_large next (units_over s root a b)))
 
--- A's rows are asked for, and then B's, and judged
-abbrev pub gathering : SchemaModel → PlanModel → (List Rows → List Rows → Script) → Script
+-- A's rows are asked for, and then B's, and judged; what follows are both and the units over them
+abbrev pub gathering : SchemaModel → PlanModel → (List Rows → List Rows → List UnitModel → Script) → Script
 gathering s plan next = asking A plan.root 0 s.tables (λ a. asking B plan.root 0 s.tables (λ b. judging_both s plan.root a b (next a b)))
 
--- then a ticket is taken; what follows are that ticket and the rows that the query means over both sites' union
-abbrev pub answering : SchemaModel → Query → PlanModel → (ℕ → Rows → Script) → Script
-answering s query plan next = gathering s plan (λ a b. ticketing (λ ticket. next ticket (answer s (union a b) query)))
+-- then a ticket is taken; what follows are that ticket, the query as it is made ready, and the rows that it means over both sites' union
+abbrev pub answering : SchemaModel → Query → PlanModel → (ℕ → PreparedModel → Rows → Script) → Script
+answering s query plan next = gathering s plan (λ a b units. ticketing (λ ticket. next ticket (prepared_of s plan.root a b units) (answer s (union a b) query)))
 
--- a query is bound first; what follows is the text of its answer
-abbrev pub query_answer : SchemaModel → ℕ → Query → (List ℕ → Script) → Script
-query_answer s number query next = binding s query (λ plan. answering s query plan (λ ticket rows. next (answer_text number ticket plan.columns rows)))
+-- a query is bound first; what follows is the text of its answer, with the views that these parties have of it on this tape
+abbrev pub query_answer : Tape → List Party → SchemaModel → ℕ → Query → (List ℕ → Script) → Script
+query_answer tape parties s number query next = binding s query (λ plan. answering s query plan (λ ticket p rows. next (answer_text number ticket plan.columns rows ++ shown_text parties tape p ticket)))
 
-abbrev pub query_script : SchemaModel → ℕ → Query → Script → Script
-query_script s number query next = query_answer s number query (λ text. Say text next)
+abbrev pub query_script : Tape → List Party → SchemaModel → ℕ → Query → Script → Script
+query_script tape parties s number query next = query_answer tape parties s number query (λ text. Say text next)
 
 -- ---- what an answer is
 
@@ -177,7 +186,14 @@ pub record IsTaken (kept_a kept_b : Option (List BatchHeld)) (s : SchemaModel) (
   pub units : List UnitModel
   pub fits : units_over s plan.root a b ≡ Ok units
 
--- The text is the answer to the query of this number and ticket: the rows that it means over the union of both sites' tables.
-pub record IsAnswer (kept_a kept_b : Option (List BatchHeld)) (s : SchemaModel) (number ticket : ℕ) (query : Query) (text : List ℕ) : Type 0 where
+-- The text is the answer to the query of this number and ticket: the rows that it means over the union of both sites' tables, and then
+-- the views that these parties have of it on this tape.
+pub record IsAnswer (tape : Tape) (parties : List Party) (kept_a kept_b : Option (List BatchHeld)) (s : SchemaModel) (number ticket : ℕ) (query : Query) (text : List ℕ) : Type 0 where
   pub taken : IsTaken kept_a kept_b s query
   pub printed : text ≡ answer_text number ticket taken.plan.columns (answer s (union taken.a taken.b) query)
+      ++ shown_text parties tape (prepared_of s taken.plan.root taken.a taken.b taken.units) ticket
+
+-- Without views an answer is the same on every tape.
+abbrev pub SameOnTapes : Type 0
+SameOnTapes = (tape other : Tape) (kept_a kept_b : Option (List BatchHeld)) (s : SchemaModel) (number ticket : ℕ) (query : Query) (text : List ℕ) →
+    IsAnswer tape [] kept_a kept_b s number ticket query text → IsAnswer other [] kept_a kept_b s number ticket query text

@@ -9,7 +9,7 @@ use Rattle.pdn_schema.specs.Models.{SchemaModel, TableModel, table_of}
 use Rattle.pdn_schema.specs.Rows.{IsValid, IsRefused, AreValid}
 use Rattle.pdn_tree.specs.declared.node.Node.{Node}
 use Rattle.pdn_site.specs.Models.{UnitModel}
-use Rattle.pdn_broker.specs.Prepared.{PreparedModel, IsOf}
+use Rattle.pdn_broker.specs.Prepared.{PreparedModel, prepared_of}
 use Rattle.pdn_script.specs.declared.stop.Stop.{Stop}
 use Rattle.pdn_script.specs.Stops.{stop_of, IsRefusal}
 use Rattle.pdn_query.specs.Answering.{units_over, wrong_column}
@@ -39,16 +39,16 @@ pub record LargeUnit (s : SchemaModel) (root : Node) (a b : List Rows) (stop : S
 abbrev pub NotReady : SchemaModel → Node → List Rows → List Rows → Stop → Type 0
 NotReady s root a b stop = WrongTable s A a stop ⊎ (AreValid s a × WrongTable s B b stop) ⊎ (AreValid s a × AreValid s b × LargeUnit s root a b stop) ⊎ (stop_of stop ≡ NoMemory)
 
--- a query that is ready stands over valid tables
+-- a query that is ready is made of valid tables
 pub record IsReady (s : SchemaModel) (root : Node) (p : PreparedModel) : Type 0 where
-  pub root_is : p.a.root ≡ root
+  pub form : p ≡ prepared_of s root p.a.tables p.b.tables p.units
   pub valid_a : AreValid s p.a.tables
   pub valid_b : AreValid s p.b.tables
 
--- These tables are valid, the units over them pass no limit, and this is made of them.
+-- These tables are valid, the units over them pass no limit, and this is made of all of them.
 pub record AreReady (s : SchemaModel) (root : Node) (a b : List Rows) (p : PreparedModel) : Type 0 where
   pub valid_a : AreValid s a
   pub valid_b : AreValid s b
   pub units : List UnitModel
   pub fits : units_over s root a b ≡ Ok units
-  pub made : IsOf s root a b p
+  pub made : p ≡ prepared_of s root a b units

@@ -25,6 +25,9 @@ Clears = ways.Clears questions
 abbrev pub Refusals : Told → (Status → Type 0) → Script → Type 0
 Refusals = ways.Refusals questions
 
+abbrev pub HasReason : (Who → Type 0) → Told → Script → Status → Type 0
+HasReason = ways.HasReason questions
+
 abbrev pub Texts : Told → (List ℕ → Told → Type 0) → Script → Type 0
 Texts = ways.Texts questions
 

@@ -1,5 +1,5 @@
 //! The answer to a query: both sites' rows are asked for, judged, and answered over their union.
-ghost use Rattle.std.specs.Prelude.{◌≡◌, ◌<◌, ◌-◌, ◌^◌, ℕ, List, None, length, true, IfOk, MatchResult};
+ghost use Rattle.std.specs.Prelude.{◌≡◌, ◌<◌, ◌-◌, ◌^◌, ◌++◌, ℕ, List, None, length, true, IfOk, MatchResult};
 ghost use Rattle.std.specs.List.{All};
 ghost use Rattle.std.specs.String.{string_bytes};
 ghost use Rattle.pdn_base.specs.Operators.{Rows as RowsModel};
@@ -9,8 +9,11 @@ ghost use Rattle.pdn_plan.specs.Answer.{IsWritten, answer};
 ghost use Rattle.pdn_plan.specs.Binding.{refusal};
 ghost use Rattle.pdn_plan.specs.Planning.{root};
 ghost use Rattle.pdn_tree.specs.Shapes.{shape};
-ghost use Rattle.pdn_broker.specs.Prepared.{IsPrepared};
-ghost use Rattle.pdn_query.specs.Answering.{gathering, query_answer, wrong_column};
+ghost use Rattle.pdn_site.specs.Models.{UnitModel};
+ghost use Rattle.pdn_broker.specs.Prepared.{IsPrepared, PreparedForm};
+ghost use Rattle.pdn_broker.specs.Answered.{IsAnswered};
+ghost use Rattle.pdn_query.specs.Answering.{answer_text, gathering, query_answer, wrong_column};
+ghost use Rattle.pdn_query.specs.Showing.{parties_of, views_of, views_text};
 ghost use Rattle.pdn_query.specs.Gathering.{NotReady, AreReady, IsReady};
 ghost use Rattle.pdn_query.specs.Questions.{OnlyDesk};
 ghost use Rattle.pdn_query.specs.Script.{Script};
@@ -20,12 +23,14 @@ ghost use Rattle.pdn_script.specs.Stops.{IsRefusal};
 use crate::answer_text::answer_text;
 use crate::binding::bound;
 use crate::columns::column_name;
+use crate::show::Show;
 use crate::tables::tables_at;
 use crate::tickets::next_ticket;
+use crate::views::put_views;
 use crate::workers::Crew;
 use crate::world::Outside;
 use pdn_base::{Memory, Rows, RowsErr, Site, Status, Tables};
-use pdn_broker::{PrepareErr, Prepared, Watch, answer, prepare};
+use pdn_broker::{Answered, PrepareErr, Prepared, Watch, answer, prepare, prepared_form};
 use pdn_dealer::Deal;
 use pdn_plan::{Plan, plan_means_answer, valid_unions_fit};
 use pdn_schema::{Schema, Table};
@@ -34,15 +39,16 @@ use pdn_sql::Query;
 use std::alloc::Global;
 use std::thread::Threads;
 
-/// A query of a file, with its number there.
+/// A query of a file, with its number there, and whose views are shown with its answer.
 #[derive(Clone, Copy)]
 pub struct Numbered<'a> {
     pub number: u64,
     pub query: &'a Query,
+    pub show: Option<Show>,
 }
 
-/// The text of the answer to a query, over the rows of both sites. Its ticket is taken of the desk when nothing is left to
-/// be refused.
+/// The text of the answer to a query, over the rows of both sites, and then the views that are asked for: what those parties see of
+/// the query on the dealer's tape. Its ticket is taken of the desk when nothing is left to be refused.
 pub fn query_answer<R: Threads + Sync, W: Outside, D: Deal + Watch>(
     alloc: Global,
     schema: &Schema,
@@ -53,15 +59,33 @@ pub fn query_answer<R: Threads + Sync, W: Outside, D: Deal + Watch>(
     requires written { IsWritten asked.query.now }
     ensures came { (next : List ℕ → Script) →
         Came (W.state world.old) (W.state world.new)
-        (query_answer schema.now asked.entry.number asked.entry.query.now next)
+        (query_answer (D.tape crew.now.deal.now) (parties_of asked.entry.show)
+        schema.now asked.entry.number asked.entry.query.now next)
         (λ text. next text.items) result }
     ensures only { OnlyDesk (W.state world.old).told (W.state world.new).told }
 {
     let plan = bound(alloc, schema, asked.query)?;
     let prepared = gathered(alloc, schema, &plan, world)?;
     let ticket = next_ticket(alloc, world)?;
-    let rows = answered_rows(alloc, schema, asked.query, ticket, prepared, crew)?;
-    Ok(answer_text(alloc, asked.number, ticket, &plan, &rows)?)
+    let answered = answer_prepared(alloc, schema, asked.query, ticket, prepared, crew)?;
+    Ok(whole_text(alloc, asked, ticket, &plan, &answered)?)
+}
+
+// The answer's text, and then the views that are asked for.
+fn whole_text(
+    alloc: Global,
+    asked: Numbered<'_>,
+    ticket: u64,
+    plan: &Plan,
+    answered: &Answered,
+) -> Result<Vec<u8>, Memory>
+    ensures { IfOk result (λ text. text.items
+        ≡ answer_text asked.entry.number ticket plan.now.columns answered.now.rows
+        ++ views_text (views_of answered.now asked.entry.show)) }
+{
+    let mut text = answer_text(alloc, asked.number, ticket, plan, &answered.rows)?;
+    put_views(alloc, &mut text, answered, asked.show)?;
+    Ok(text)
 }
 
 // The query made ready over the rows that both sites keep of the tables that it scans, or the refusal.
@@ -72,9 +96,9 @@ fn gathered<W: Outside>(
     world: &mut W,
 ) -> Result<Prepared, Stop>
     requires { (shape schema.now plan.now.root).sound ≡ true }
-    ensures came { (next : List RowsModel → List RowsModel → Script) →
+    ensures came { (next : List RowsModel → List RowsModel → List UnitModel → Script) →
         Came (W.state world.old) (W.state world.new) (gathering schema.now plan.now next)
-        (λ prepared. next prepared.a.tables prepared.b.tables) result }
+        (λ prepared. next prepared.a.tables prepared.b.tables prepared.units) result }
     ensures ready { IfOk result (IsReady schema.now plan.now.root) }
     ensures same { (W.state world.new).told ≡ (W.state world.old).told }
 {
@@ -83,35 +107,35 @@ fn gathered<W: Outside>(
     ready(alloc, schema, plan, a, b)
 }
 
-// The answer of a query that is made ready.
-fn answered_rows<R: Threads + Sync, D: Deal + Watch>(
+// The answer of a query that is made ready, and what each party sees of it.
+fn answer_prepared<R: Threads + Sync, D: Deal + Watch>(
     alloc: Global,
     schema: &Schema,
     query: &Query,
     ticket: u64,
     prepared: Prepared,
     crew: &Crew<'_, R, D>,
-) -> Result<Rows, Memory>
+) -> Result<Answered, Memory>
     requires written { IsWritten query.now }
     requires passes { refusal schema.now query.now ≡ None }
     requires root { prepared.a.root ≡ root schema.now query.now }
     requires valid_a { AreValid schema.now prepared.a.tables }
     requires valid_b { AreValid schema.now prepared.b.tables }
     requires there { ticket < 2 ^ 40 }
-    ensures { IfOk result (λ rows.
-        rows ≡ answer schema.now (union prepared.a.tables prepared.b.tables) query.now) }
+    ensures rows { IfOk result (λ answered. answered.rows
+        ≡ answer schema.now (union prepared.a.tables prepared.b.tables) query.now) }
+    ensures is { IfOk result (IsAnswered prepared (D.tape crew.now.deal.now) ticket) }
 {
     valid_unions_fit(schema);
     plan_means_answer(schema, query);
-    let answered = answer(
+    answer(
         crew.rt,
         alloc,
         prepared,
         ticket,
         crew.deal,
         crew.workers.count,
-    )?;
-    Ok(answered.rows)
+    )
 }
 
 // The query made ready over both sites' tables, or the refusal.
@@ -146,11 +170,13 @@ fn ready(
     }
 }
 
-// What a query that is made ready keeps.
+// What a query that is made ready keeps, and what it is.
 fn is_prepared(prepared: &Prepared)
-    ensures { IsPrepared prepared.now }
+    ensures kept { IsPrepared prepared.now }
+    ensures form { PreparedForm }
 {
     let _units = prepared.units();
+    prepared_form();
 }
 
 // The refusal of a site's rows of a table.

@@ -6,7 +6,7 @@ use Rattle.pdn_base.specs.declared.status.Who.{Who}
 use Rattle.pdn_base.specs.declared.status.Who.TheVariants.{Sink}
 use Rattle.pdn_script.specs.Rules.{Rules}
 use Rattle.pdn_script.specs.Scripts.{Script, Finish, Say, Refuse, Ask}
-use Rattle.pdn_script.specs.Ways.{Goes, End, Finished, NoMemory, PutFailed, Refused, Fails, Closes, Follows, Clears, Refusals, Texts, IsPlain}
+use Rattle.pdn_script.specs.Ways.{Goes, End, Finished, NoMemory, PutFailed, Refused, Fails, Closes, Follows, Clears, Refusals, Reached, HasReason, Texts, IsPlain}
 
 module _ {Question : Type 0} {Told : Type 0} (rules : Rules Question Told) where
   -- with nothing to refuse and no fault a walk goes to its end
@@ -63,6 +63,18 @@ module _ {Question : Type 0} {Told : Type 0} (rules : Rules Question Told) where
     pub status_has : (told : Told) (script : Script Question rules.Reply) (out : List ℕ) (result : Status) (now : Told) → P status.Done → P status.Memory → Refusals rules told P script →
         Follows rules rose told script out result now → P result
     status_has told script out result now done memory r a = closed_has a.end a.last result done memory (end_has told script a.front a.end now r a.goes) a.closes
+
+  -- what holds of each refusal that is reached holds of each refusal
+  each_reached : (P : Status → Type 0) (told : Told) (script : Script Question rules.Reply) → ((refused : Status) → Reached rules told script refused → P refused) → Refusals rules told P script
+  each_reached P told Finish h = tt
+  each_reached P told (Refuse refused line) h = h refused refl
+  each_reached P told (Say text rest) h = each_reached P told rest h
+  each_reached P told (Ask question next) h = λ reply gives. each_reached P (rules.after told question reply) (next reply) (λ refused at. h refused (reply, gives, at))
+
+  -- each status has its reason, on every script
+  pub has_reason : (rose : Who → Type 0) (told : Told) (script : Script Question rules.Reply) (out : List ℕ) (result : Status) (now : Told) → Follows rules rose told script out result now → HasReason rules rose told script result
+  has_reason rose told script out result now a = status_has rose (HasReason rules rose told script) (λ who up. inr (inr (inl (who, refl, up)))) told script out result now
+      (inl refl) (inr (inl refl)) (each_reached (HasReason rules rose told script) told script (λ refused at. inr (inr (inr at)))) a
 
   -- the whole text, where a walk ends without a refusal
   finished_text : (rose : Who → Type 0) (told : Told) (Q : List ℕ → Told → Type 0) (script : Script Question rules.Reply) (out : List ℕ) (end : End) (now : Told) → end ≡ Finished →

@@ -77,6 +77,17 @@ module _ {Question : Type 0} {Told : Type 0} (rules : Rules Question Told) where
   Refusals told P (Say text rest) = Refusals told P rest
   Refusals told P (Ask question next) = (reply : rules.Reply question) → rules.Gives told question reply → Refusals (rules.after told question reply) P (next reply)
 
+  -- This status stands as a refusal at the end of a way along the script that the objects' content allows.
+  abbrev pub Reached : Told → Script Question rules.Reply → Status → Type 0
+  Reached told Finish result = ⊥
+  Reached told (Refuse refused line) result = result ≡ refused
+  Reached told (Say text rest) result = Reached told rest result
+  Reached told (Ask question next) result = (reply : rules.Reply question) × rules.Gives told question reply × Reached (rules.after told question reply) (next reply) result
+
+  -- Why a status is answered: all was done, memory ran out, the count of this object rose, or this refusal is reached.
+  abbrev pub HasReason : (Who → Type 0) → Told → Script Question rules.Reply → Status → Type 0
+  HasReason rose told script result = (result ≡ status.Done) ⊎ (result ≡ status.Memory) ⊎ ((who : Who) × (result ≡ status.Unavailable who) × rose who) ⊎ Reached told script result
+
   -- The whole text of each way along the script that the objects' content allows, and that ends without a refusal, has Q, with
   -- what the objects then hold.
   abbrev pub Texts : Told → (List ℕ → Told → Type 0) → Script Question rules.Reply → Type 0

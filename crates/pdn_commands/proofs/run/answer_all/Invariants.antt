@@ -1,11 +1,12 @@
 use Rattle.std.proofs.Common.{◌+◌, drop}
 use Rattle.pdn_commands.specs.Running.{queries_script}
 use Rattle.pdn_query.specs.Questions.{OnlyDesk}
+use Rattle.pdn_query.specs.Showing.{parties_of}
 use Rattle.pdn_query.specs.Walk.{Leads}
 use Rattle.pdn_commands.proofs.run.answer_all.Given as goal
 
 abbrev pub invariant-loop-i : goal.invariant-loop-i
 invariant-loop-i g l = record {
-  leads : Leads (g.W.Outside.state l.fn.world) (g.W.Outside.state l.world) (queries_script l.schema 1 l.queries) (queries_script l.schema (l.i + 1) (drop l.i l.queries));
+  leads : Leads (g.W.Outside.state l.fn.world) (g.W.Outside.state l.world) (queries_script (g.D.Deal.tape l.crew.deal.now) (parties_of l.show) l.schema 1 l.queries) (queries_script (g.D.Deal.tape l.crew.deal.now) (parties_of l.show) l.schema (l.i + 1) (drop l.i l.queries));
   only : OnlyDesk (g.W.Outside.state l.fn.world).told (g.W.Outside.state l.world).told;
 }

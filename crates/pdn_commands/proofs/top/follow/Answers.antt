@@ -6,13 +6,13 @@ use Rattle.pdn_commands.proofs.Tasks.{kept_a, kept_b, run_takes, load_takes_none
 use Rattle.pdn_commands.proofs.top.follow.Goals as goal
 
 pub returns-in-Some-Run-clause-goes : goal.returns-in-Some-Run-clause-goes
-returns-in-Some-Run-clause-goes g c = asked (map string_bytes c.args.words.now) (Some (Run c.in-Some-Run.file.now _)) (rw (c.in-Some-Run.field-0-is) at c.in-Some-Run.ensures) c.run.ensures.goes
+returns-in-Some-Run-clause-goes g c = asked (g.D.Deal.tape c.args.deal.now) (map string_bytes c.args.words.now) (Some (Run c.in-Some-Run.file.now _ _)) (rw (c.in-Some-Run.field-0-is) at c.in-Some-Run.ensures) c.run.ensures.goes
 
 pub returns-in-Some-Check-clause-goes : goal.returns-in-Some-Check-clause-goes
-returns-in-Some-Check-clause-goes g c = asked (map string_bytes c.args.words.now) (Some (Check c.in-Some-Check.file.now)) (rw (c.in-Some-Check.field-0-is) at c.in-Some-Check.ensures) c.check.ensures.goes
+returns-in-Some-Check-clause-goes g c = asked (g.D.Deal.tape c.args.deal.now) (map string_bytes c.args.words.now) (Some (Check c.in-Some-Check.file.now)) (rw (c.in-Some-Check.field-0-is) at c.in-Some-Check.ensures) c.check.ensures.goes
 
 pub returns-in-Some-Load-clause-goes : goal.returns-in-Some-Load-clause-goes
-returns-in-Some-Load-clause-goes g c = asked (map string_bytes c.args.words.now) (Some (Load c.in-Some-Load.site c.in-Some-Load.table.now c.in-Some-Load.batch c.in-Some-Load.file.now))
+returns-in-Some-Load-clause-goes g c = asked (g.D.Deal.tape c.args.deal.now) (map string_bytes c.args.words.now) (Some (Load c.in-Some-Load.site c.in-Some-Load.table.now c.in-Some-Load.batch c.in-Some-Load.file.now))
     (rw (c.in-Some-Load.field-0-is) at c.in-Some-Load.ensures) c.load.ensures.goes
 
 pub returns-in-Some-Load-clause-kept_a : goal.returns-in-Some-Load-clause-kept_a
@@ -22,7 +22,7 @@ pub returns-in-Some-Load-clause-kept_b : goal.returns-in-Some-Load-clause-kept_b
 returns-in-Some-Load-clause-kept_b g c = kept_b c.in-Some-Load.table.now c.in-Some-Load.batch c.in-Some-Load.file.now _ _ _ c.in-Some-Load.site (rw (c.in-Some-Load.field-0-is) at c.in-Some-Load.ensures) c.load.ensures.only
 
 pub returns-in-Some-Run-clause-desk : goal.returns-in-Some-Run-clause-desk
-returns-in-Some-Run-clause-desk g c = run_takes c.in-Some-Run.file.now _ _ (rw (c.in-Some-Run.field-0-is) at c.in-Some-Run.ensures)
+returns-in-Some-Run-clause-desk g c = run_takes c.in-Some-Run.file.now _ _ _ (rw (c.in-Some-Run.field-0-is) at c.in-Some-Run.ensures)
 
 pub returns-in-Some-Load-clause-desk : goal.returns-in-Some-Load-clause-desk
 returns-in-Some-Load-clause-desk g c = λ off. load_takes_none c.in-Some-Load.site _ _ c.load.ensures.only

@@ -15,7 +15,7 @@ returns-in_err-b-clause-came g c =
     rw (p.1, p.2) (λ next. leads_along (c.in_ok-a.ensures.came _) (c.in_err-b.ensures.came _))
 
 pub returns-clause-came : goal.returns-clause-came
-returns-clause-came g c = λ next. came_on _ (λ p. next p.a.tables p.b.tables) c.ready.result (c.in_ok-a.ensures.came _) (came_on _ (λ p. next p.a.tables p.b.tables) c.ready.result (c.in_ok-b.ensures.came _)
+returns-clause-came g c = λ next. came_on _ (λ p. next p.a.tables p.b.tables p.units) c.ready.result (c.in_ok-a.ensures.came _) (came_on _ (λ p. next p.a.tables p.b.tables p.units) c.ready.result (c.in_ok-b.ensures.came _)
     (gathered _ c.args.schema.now c.args.plan.now.root c.in_ok-a.a c.in_ok-b.b next c.ready.result c.in_ok-a.ensures.count c.in_ok-b.ensures.count c.ready.ensures))
 
 pub returns-clause-ready : goal.returns-clause-ready

@@ -1,0 +1,3 @@
+pub mod SectionWords
+pub mod WorldLaws
+pub mod TwinLaws

@@ -1,0 +1,11 @@
+use Rattle.pdn_twin.proofs.WorldLaws.{sees_the_same, gives_back, keeps_the_rest}
+use Rattle.pdn_twin.proofs.twinning.twin.Goals as goal
+
+pub returns-clause-same : goal.returns-clause-same
+returns-clause-same g c = sees_the_same c.args.worlds.site c.args.worlds.first c.args.worlds.second c.requires.alike c.args.ticket
+
+pub returns-clause-back : goal.returns-clause-back
+returns-clause-back g c = gives_back c.args.worlds.site c.args.worlds.first c.args.worlds.second c.requires.alike c.args.ticket
+
+pub returns-clause-others : goal.returns-clause-others
+returns-clause-others g c = keeps_the_rest c.args.worlds.site c.args.worlds.first c.args.worlds.second c.requires.alike c.args.ticket
