@@ -15,7 +15,7 @@ use Rattle.pdn_schema.specs.Models.{SchemaModel, table_of}
 use Rattle.pdn_schema.specs.Reading.{Says}
 use Rattle.pdn_schema.specs.Rows.{IsRefused}
 use Rattle.pdn_sql.specs.declared.query.Query.{Query}
-use Rattle.pdn_commands.specs.Commands.{Task, Run, Check, Load, task_of}
+use Rattle.pdn_commands.specs.Commands.{Task, Run, Check, Twin, Load, task_of}
 use Rattle.pdn_query.specs.Answering.{IsTaken, KeepsAll, AllValid, units_over}
 use Rattle.pdn_commands.specs.Running.{AreLeft, AreAnswers, with_given}
 use Rattle.pdn_commands.specs.Checking.{AreReported}
@@ -30,6 +30,7 @@ use Rattle.pdn_keeper.specs.Batches.{batch_held}
 abbrev pub file_of : Task → List ℕ
 file_of (Run file workers parties) = file
 file_of (Check file) = file
+file_of (Twin site file folder workers) = file
 file_of (Load site table number file) = file
 
 -- A command reads a file of this name.

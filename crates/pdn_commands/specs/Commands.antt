@@ -11,23 +11,27 @@ use Rattle.pdn_base.specs.declared.status.Status.TheVariants as status
 use Rattle.pdn_view.specs.declared.view.Party.{Party}
 use Rattle.pdn_view.specs.declared.view.Party.TheVariants as party
 use Rattle.pdn_broker.specs.Runs.{Tape}
+use Rattle.pdn_broker.specs.Views.{party_of}
 use Rattle.pdn_query.specs.Script.{Script, refuse}
 use Rattle.pdn_query.specs.Showing.{all_parties, parties_of}
 use Rattle.pdn_commands.specs.Script.{with_inputs, with_queries, load_script}
 use Rattle.pdn_commands.specs.Running.{queries_script}
 use Rattle.pdn_commands.specs.Checking.{report_script}
+use Rattle.pdn_commands.specs.Twinning.{twin_script}
 use Rattle.pdn_commands.specs.declared.command.Command.{Command}
 use Rattle.pdn_commands.specs.declared.command.Command.TheVariants as command
 
 pub data Task : Type 0 where
   Run : List ℕ → ℕ → List Party → Task  -- the SQL file, how many workers, and whose views are shown
   Check : List ℕ → Task  -- the SQL file
+  Twin : Site → List ℕ → List ℕ → ℕ → Task  -- of this site, the SQL file, the folder, and how many workers
   Load : Site → List ℕ → ℕ → List ℕ → Task  -- at this site, of the table of this name, the batch of this number, from the CSV file
 
 -- what a command of the code asks for
 abbrev pub seen : Command → Task
 seen (command.Run file workers show) = Run file.now workers.count (parties_of show)
 seen (command.Check file) = Check file.now
+seen (command.Twin site file folder workers) = Twin site file.now folder.now workers.count
 seen (command.Load site table batch file) = Load site table.now batch file.now
 
 -- 1 to 16, without a leading zero
@@ -76,10 +80,19 @@ abbrev pub load_task : List (List ℕ) → Option Task
 load_task (site ∷ table ∷ batch ∷ file ∷ []) = load_of (site_of site) table (batch_of batch) file
 load_task words = None
 
+abbrev pub twin_of : Option Site → List ℕ → List ℕ → Option ℕ → Option Task
+twin_of (Some site) file folder (Some workers) = Some (Twin site file folder workers)
+twin_of site file folder workers = None
+
+-- `twin <a or b> <sqlfile> <folder> <workers>`
+abbrev pub twin_task : List (List ℕ) → Option Task
+twin_task (site ∷ file ∷ folder ∷ workers ∷ []) = twin_of (site_of site) file folder (workers_of workers)
+twin_task words = None
+
 abbrev pub task_of : List (List ℕ) → Option Task
 task_of [] = None
 task_of (verb ∷ words) = if bytes_eq verb (codes "run") then run_task words else if bytes_eq verb (codes "load") then load_task words
-    else if bytes_eq verb (codes "check") then check_task words else None
+    else if bytes_eq verb (codes "check") then check_task words else if bytes_eq verb (codes "twin") then twin_task words else None
 
 abbrev pub same_site : Site → Site → Bool
 same_site A A = true
@@ -91,13 +104,15 @@ abbrev pub loads : Site → Option Task → Bool
 loads site None = false
 loads site (Some (Run file workers parties)) = false
 loads site (Some (Check file)) = false
+loads site (Some (Twin at file folder workers)) = false
 loads site (Some (Load at table number file)) = same_site site at
 
--- a run is asked for
+-- a run or a twin is asked for: only these take tickets
 abbrev pub runs : Option Task → Bool
 runs None = false
 runs (Some (Run file workers parties)) = true
 runs (Some (Check file)) = false
+runs (Some (Twin site file folder workers)) = true
 runs (Some (Load at table number file)) = false
 
 -- whose views are asked for
@@ -105,6 +120,7 @@ abbrev pub shown : Option Task → List Party
 shown None = []
 shown (Some (Run file workers parties)) = parties
 shown (Some (Check file)) = []
+shown (Some (Twin site file folder workers)) = party_of site ∷ []
 shown (Some (Load at table number file)) = []
 
 abbrev pub run_script : Tape → List Party → List ℕ → Script
@@ -117,6 +133,7 @@ abbrev pub task_script : Tape → Option Task → Script
 task_script tape None = refuse status.Words
 task_script tape (Some (Run file workers parties)) = run_script tape parties file
 task_script tape (Some (Check file)) = check_script file
+task_script tape (Some (Twin site file folder workers)) = twin_script tape site file folder
 task_script tape (Some (Load site table number file)) = load_script site table number file
 
 -- what the words ask for, on this tape

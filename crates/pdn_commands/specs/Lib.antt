@@ -1,5 +1,9 @@
 pub mod Script
 pub mod Running
 pub mod Checking
+pub mod Twinning
+pub mod HandedOn
 pub mod Commands
 pub mod Causes
+pub mod TwinCauses
+pub mod Outcomes

@@ -5,7 +5,7 @@ ghost use Rattle.std.specs.List.{list_all};
 ghost use Rattle.std.specs.String.{string_bytes};
 ghost use Rattle.std.specs.Option.{option_map};
 ghost use Rattle.pdn_base.specs.Numbers.{value_of};
-ghost use Rattle.pdn_commands.specs.Commands.{task_of, run_task, check_task, load_task, workers_of, shown_of, site_of, batch_of, seen};
+ghost use Rattle.pdn_commands.specs.Commands.{task_of, run_task, check_task, twin_task, load_task, workers_of, shown_of, site_of, batch_of, seen};
 ghost use Rattle.pdn_query.specs.Showing.{parties_of};
 
 use pdn_base::{Site, number};
@@ -23,6 +23,13 @@ pub enum Command<'a> {
     /// `check <sqlfile>`
     Check {
         file: &'a str,
+    },
+    /// `twin <a or b> <sqlfile> <folder> <workers>`
+    Twin {
+        site: Site,
+        file: &'a str,
+        folder: &'a str,
+        workers: Workers,
     },
     /// `load <a or b> <table> <batch> <csvfile>`
     Load {
@@ -44,6 +51,7 @@ pub fn read_command(words: &[String]) -> Option<Command<'_>>
         "run" => read_run(rest),
         "load" => read_load(rest),
         "check" => read_check(rest),
+        "twin" => read_twin(rest),
         _ => None,
     }
 }
@@ -85,6 +93,20 @@ fn read_check(words: &[String]) -> Option<Command<'_>>
     match words {
         [file] => Some(Command::Check {
             file: file.as_str(),
+        }),
+        _ => None,
+    }
+}
+
+fn read_twin(words: &[String]) -> Option<Command<'_>>
+    ensures { option_map seen result ≡ twin_task (map string_bytes words.now) }
+{
+    match words {
+        [site, file, folder, workers] => Some(Command::Twin {
+            site: read_site(site.as_str())?,
+            file: file.as_str(),
+            folder: folder.as_str(),
+            workers: read_workers(workers.as_bytes())?,
         }),
         _ => None,
     }

@@ -3,11 +3,15 @@
 
 mod check;
 mod command;
+mod folder;
 mod inputs;
 mod laws;
 mod load;
 mod run;
 mod top;
+mod twin;
+mod twin_text;
+mod worlds;
 
 pub use laws::scripts_are_the_same_on_every_tape;
 pub use pdn_query::{Outside, World};

@@ -65,12 +65,18 @@ fn no_table(alloc: Global, name: &str) -> Stop
     }
 }
 
-// The rows of a CSV text, or the refusal.
-fn rows_of(alloc: Global, schema: &Schema, table: u32, bytes: &[u8]) -> Result<Rows, Stop>
+/// The rows of a CSV text, or the refusal.
+pub(crate) fn rows_of(
+    alloc: Global,
+    schema: &Schema,
+    table: u32,
+    bytes: &[u8],
+) -> Result<Rows, Stop>
     requires in_range { table < length schema.now.tables }
     requires short { IsShort bytes.now }
-    ensures { (w : WorldModel) (next : RowsModel → Script) →
+    ensures came { (w : WorldModel) (next : RowsModel → Script) →
         Came w w (importing (table_of schema.now table) bytes.now next) (λ rows. next rows) result }
+    ensures few { IfOk result IsShort }
 {
     match import_csv(alloc, schema, table, bytes) {
         Ok(rows) => Ok(rows),

@@ -3,7 +3,7 @@ ghost use Rattle.std.specs.Prelude.{◌≡◌, ◌⊎◌, map, false};
 ghost use Rattle.std.specs.String.{string_bytes};
 ghost use Rattle.pdn_base.specs.declared.site.Site.TheVariants.{A, B};
 ghost use Rattle.pdn_base.specs.declared.status.Who.{Who};
-ghost use Rattle.pdn_commands.specs.Causes.{Cause, IsDone};
+ghost use Rattle.pdn_commands.specs.Outcomes.{HasCause, IsAllDone};
 ghost use Rattle.pdn_commands.specs.Commands.{script, task_of, loads, runs};
 ghost use Rattle.pdn_query.specs.Questions.{OnlyDesk};
 ghost use Rattle.pdn_query.specs.DeskCalls.{AsksTickets};
@@ -15,6 +15,7 @@ use crate::check::check;
 use crate::command::{Command, read_command};
 use crate::load::{BatchFile, load};
 use crate::run::run;
+use crate::twin::{TwinFiles, twin};
 use pdn_base::Status;
 use pdn_broker::Watch;
 use pdn_dealer::Deal;
@@ -38,11 +39,11 @@ pub fn pdn<R: Threads + Sync, W: Outside, D: Deal + Watch>(
     ensures answers { Answered (W.state world.old) (W.state world.new)
         (script (D.tape deal.now) (map string_bytes words.now)) result }
 
-    // Done comes only with the answer of each query over the rows of both sites, the schema with the report of each query, or
-    // the line of the batch that is then kept.
+    // Done comes only with the answer of each query over the rows of both sites, the schema with the report of each query, the
+    // line of the batch that is then kept, or the twin of each query in two worlds that agree in what is public.
     ensures counted { let old = W.state world.old in let new = W.state world.new in
         result ≡ Status.Done → Wrote old.written new.written (λ text.
-        IsDone (D.tape deal.now) old.told (map string_bytes words.now) text new.told) }
+        IsAllDone (D.tape deal.now) old.told (map string_bytes words.now) text new.told) }
 
     // A refusal comes only where the script comes to it, over what the objects tell.
     ensures reason { let old = W.state world.old in
@@ -51,7 +52,7 @@ pub fn pdn<R: Threads + Sync, W: Outside, D: Deal + Watch>(
 
     // Each status comes only where its cause stands, and no status without one: in each command's own words.
     ensures cause { let old = W.state world.old in
-        Cause (RoseIn old.counts (W.state world.new).counts) old.told
+        HasCause (RoseIn old.counts (W.state world.new).counts) old.told
         (map string_bytes words.now) result }
 
     // Where no count rose and memory didn't run out, status and text are those that are due, and so is what is kept.
@@ -66,7 +67,7 @@ pub fn pdn<R: Threads + Sync, W: Outside, D: Deal + Watch>(
         → ((who : Who) → RoseIn old.counts (W.state world.new).counts who → ⊥)
         → (result ≡ Status.Done) ⊎ (result ≡ Status.Memory) }
 
-    // Only the keeper that a load names changes, and none where memory ran out; only a run takes tickets.
+    // Only the keeper that a load names changes, and none where memory ran out; only a run and a twin take tickets.
     ensures kept_a { loads A (task_of (map string_bytes words.now)) ≡ false
         → (W.state world.new).told.a ≡ (W.state world.old).told.a }
     ensures kept_b { loads B (task_of (map string_bytes words.now)) ≡ false
@@ -139,6 +140,18 @@ fn follow<R: Threads + Sync, W: Outside, D: Deal + Watch>(
             run(alloc, file, show, world, &crew)
         }
         Some(Command::Check { file }) => check(alloc, file, world),
+        Some(
+            Command::Twin {
+                site,
+                file,
+                folder,
+                workers,
+            },
+        ) => {
+            let crew = Crew { rt, deal, workers };
+            let asked = TwinFiles { site, file, folder };
+            twin(alloc, asked, world, &crew)
+        }
         Some(
             Command::Load {
                 site,

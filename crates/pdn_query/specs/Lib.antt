@@ -1,6 +1,8 @@
 pub mod Questions
 pub mod World
 pub mod Script
+pub mod Each
+pub mod Comparing
 pub mod Walk
 pub mod Showing
 pub mod Answering

@@ -8,6 +8,8 @@ use Rattle.pdn_base.specs.declared.status.Who.TheVariants.{Files, SiteA, SiteB, 
 use Rattle.pdn_base.specs.declared.rows_err.RowsErr.{RowsErr}
 use Rattle.pdn_base.specs.declared.value.Value.{Value}
 use Rattle.pdn_base.specs.declared.marks.Label.{Label}
+use Rattle.pdn_agree.specs.Spots.{IsSpot}
+use Rattle.pdn_level.specs.declared.staged.Leaf.{Leaf}
 use Rattle.pdn_schema.specs.Models.{SchemaModel, TableModel}
 use Rattle.pdn_schema.specs.Reading.{Says, IsFirstFault}
 use Rattle.pdn_schema.specs.Rows.{IsValid, IsRefused}
@@ -36,6 +38,7 @@ pub data Question : Type 0 where
   Bound : SchemaModel → Query → Question  -- the plan of a query, or why it has none
   RowsIn : TableModel → List ℕ → Question  -- the rows that a CSV text gives for a table, or its first bad record and the cause
   Valid : TableModel → List (List Value) → Question  -- what is wrong with rows of a table, if anything
+  Agreeing : SchemaModel → List (List (List Value)) → List (List (List Value)) → Question  -- the first public column whose values differ in two lists of tables, if any
 
 -- why a query has no plan
 pub data Unbound : Type 0 where
@@ -60,6 +63,7 @@ Reply (QueriesIn bytes) = Result (List Query) (ℕ × ℕ)
 Reply (Bound s query) = Result PlanModel Unbound
 Reply (RowsIn t bytes) = Result (List (List Value)) (ℕ × ℕ)
 Reply (Valid t rows) = Option RowsErr
+Reply (Agreeing s first second) = Option Leaf
 
 -- which object is asked
 abbrev pub who_of : Site → Who
@@ -76,6 +80,7 @@ asked_of (QueriesIn bytes) = None
 asked_of (Bound s query) = None
 asked_of (RowsIn t bytes) = None
 asked_of (Valid t rows) = None
+asked_of (Agreeing s first second) = None
 
 -- what the outside objects hold, each where it tells that
 pub record Told : Type 0 where
@@ -154,6 +159,7 @@ Gives told (QueriesIn bytes) queries = AreQueriesIn bytes queries
 Gives told (Bound s query) plan = IsBound s query plan
 Gives told (RowsIn t bytes) rows = AreRowsIn t bytes rows
 Gives told (Valid t rows) wrong = IsWrong t rows wrong
+Gives told (Agreeing s first second) spot = IsSpot s first second spot
 
 -- ---- what the objects hold afterwards
 
@@ -191,6 +197,7 @@ after told (QueriesIn bytes) queries = told
 after told (Bound s query) plan = told
 after told (RowsIn t bytes) rows = told
 after told (Valid t rows) wrong = told
+after told (Agreeing s first second) spot = told
 
 -- where the object failed: a batch that was handed over may be kept, a ticket that was asked for taken
 abbrev pub AfterFault : Told → Question → Told → Type 0
@@ -203,6 +210,7 @@ AfterFault told (QueriesIn bytes) now = now ≡ told
 AfterFault told (Bound s query) now = now ≡ told
 AfterFault told (RowsIn t bytes) now = now ≡ told
 AfterFault told (Valid t rows) now = now ≡ told
+AfterFault told (Agreeing s first second) now = now ≡ told
 
 -- what may be asked, and what becomes of it
 abbrev pub questions : Rules Question Told

@@ -138,8 +138,8 @@ fn answer_prepared<R: Threads + Sync, D: Deal + Watch>(
     )
 }
 
-// The query made ready over both sites' tables, or the refusal.
-fn ready(
+/// The query made ready over both sites' tables, or the refusal.
+pub fn ready(
     alloc: Global,
     schema: &Schema,
     plan: &Plan,
@@ -180,7 +180,7 @@ fn is_prepared(prepared: &Prepared)
 }
 
 // The refusal of a site's rows of a table.
-fn wrong_rows(alloc: Global, schema: &Schema, site: Site, table: u32, wrong: RowsErr) -> Stop
+pub(crate) fn wrong_rows(alloc: Global, schema: &Schema, site: Site, table: u32, wrong: RowsErr) -> Stop
     requires { table < length schema.now.tables }
     ensures { let t = table_of schema.now table in
         IsRefusal t.name (wrong_column t wrong) (Status.BadRows site table wrong) result }

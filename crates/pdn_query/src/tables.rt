@@ -87,7 +87,7 @@ fn rows_if<W: Outside>(
 }
 
 // A site's rows of a table, or the refusal that names the site.
-fn rows_at<W: Outside>(
+pub(crate) fn rows_at<W: Outside>(
     alloc: Global,
     site: Site,
     schema: &Schema,
