@@ -8,7 +8,7 @@ use Rattle.pdn_broker.specs.Runs.{Tape}
 use Rattle.pdn_query.specs.Questions.{Told, OnlyAt}
 use Rattle.pdn_query.specs.Walk.{End, Along}
 use Rattle.pdn_query.specs.World.{WorldModel}
-use Rattle.pdn_commands.specs.Commands.{Task, Run, Load, task_of, task_script, script, loads, runs}
+use Rattle.pdn_commands.specs.Commands.{Task, Run, Twin, Load, task_of, task_script, script, loads, runs}
 
 -- the script is that of the task that the words ask for
 pub asked : {a b : WorldModel} {end : End} (tape : Tape) (words : List (List ℕ)) (task : Option Task) → task ≡ task_of words → Along a b (task_script tape task) end → Along a b (script tape words) end
@@ -26,6 +26,9 @@ module _ (table : List ℕ) (number : ℕ) (file : List ℕ) (task : Option Task
   kept_b B e only off = let on : loads B (Some (Load B table number file)) ≡ false = subst (λ (t : Option Task). loads B t ≡ false) (sym e) off in cc
 
 -- ---- whether tickets may be taken
+
+pub twin_takes : {X : Type 0} (site : Site) (file folder : List ℕ) (workers : ℕ) (task : Option Task) → Some (Twin site file folder workers) ≡ task → runs task ≡ false → X
+twin_takes site file folder workers task e off = let on : runs (Some (Twin site file folder workers)) ≡ false = subst (λ (t : Option Task). runs t ≡ false) (sym e) off in cc
 
 pub run_takes : {X : Type 0} (file : List ℕ) (workers : ℕ) (parties : List Party) (task : Option Task) → Some (Run file workers parties) ≡ task → runs task ≡ false → X
 run_takes file workers parties task e off = let on : runs (Some (Run file workers parties)) ≡ false = subst (λ (t : Option Task). runs t ≡ false) (sym e) off in cc

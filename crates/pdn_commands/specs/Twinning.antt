@@ -22,6 +22,7 @@ use Rattle.pdn_query.specs.Each.{each, keeping}
 use Rattle.pdn_query.specs.Comparing.{comparing}
 use Rattle.pdn_query.specs.Questions.{File}
 use Rattle.pdn_query.specs.Script.{Script, Finish, Say, Ask, binding}
+use Rattle.pdn_commands.specs.Running.{numbered}
 use Rattle.pdn_commands.specs.Script.{with_inputs, with_queries, importing}
 
 -- ---- two worlds
@@ -124,10 +125,9 @@ twin_planned tape w number plan next = or_large (λ units. ticketing (λ ticket.
 abbrev pub twin_query : Tape → TwoWorlds → ℕ → Query → Script → Script
 twin_query tape w number query next = binding w.schema query (λ plan. twin_planned tape w number plan next)
 
--- each query in order, with its number
+-- the twin of each query
 abbrev pub twins_script : Tape → TwoWorlds → ℕ → List Query → Script
-twins_script tape w number [] = Finish
-twins_script tape w number (query ∷ queries) = twin_query tape w number query (twins_script tape w (number + 1) queries)
+twins_script tape w = numbered (twin_query tape w)
 
 -- Each table's file in the folder is read, and the queries; then the rows of those files, and the rows that both sites keep.
 abbrev pub twin_script : Tape → Site → List ℕ → List ℕ → Script

@@ -121,7 +121,14 @@ fn twinned<R: Threads + Sync, D: Deal + Watch>(
         (twin_of worlds.site worlds.first worlds.second (D.tape crew.now.deal.now) ticket)) }
 {
     let site = worlds.site;
-    let twin = twin_in(crew.rt, alloc, worlds, ticket, crew.deal, crew.workers.count)?;
+    let twin = twin_in(
+        crew.rt,
+        alloc,
+        worlds,
+        ticket,
+        crew.deal,
+        crew.workers.count,
+    )?;
     twin_text(alloc, site, number, ticket, &twin)
 }
 
