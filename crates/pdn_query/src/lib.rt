@@ -16,7 +16,7 @@ mod who;
 mod workers;
 mod world;
 
-pub use answer::{Numbered, query_answer, ready};
+pub use answer::{AnsweredQuery, Numbered, answered_query, query_answer, ready};
 pub use answer_text::query_name;
 pub use binding::bound;
 pub use columns::column_name;
