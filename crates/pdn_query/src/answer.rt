@@ -84,11 +84,7 @@ pub fn query_answer<R: Threads + Sync, W: Outside, D: Deal + Watch>(
 }
 
 // The answer's text, and then the views that are asked for.
-fn whole_text(
-    alloc: Global,
-    asked: Numbered<'_>,
-    query: &AnsweredQuery,
-) -> Result<Vec<u8>, Memory>
+fn whole_text(alloc: Global, asked: Numbered<'_>, query: &AnsweredQuery) -> Result<Vec<u8>, Memory>
     ensures { IfOk result (λ text. text.items
         ≡ answer_text asked.entry.number query.now.ticket query.now.plan.columns
         query.now.answered.rows
@@ -146,8 +142,9 @@ fn gathered<W: Outside>(
     ready(alloc, schema, plan, a, b)
 }
 
-// The answer of a query that is made ready, and what each party sees of it.
-fn answer_prepared<R: Threads + Sync, D: Deal + Watch>(
+/// The answer of a query that is made ready over valid tables, on the sections of this ticket, and what each party sees of it. Memory is
+/// the only error.
+pub fn answer_prepared<R: Threads + Sync, D: Deal + Watch>(
     alloc: Global,
     schema: &Schema,
     query: &Query,
@@ -220,7 +217,13 @@ fn is_prepared(prepared: &Prepared)
 }
 
 // The refusal of a site's rows of a table.
-pub(crate) fn wrong_rows(alloc: Global, schema: &Schema, site: Site, table: u32, wrong: RowsErr) -> Stop
+pub(crate) fn wrong_rows(
+    alloc: Global,
+    schema: &Schema,
+    site: Site,
+    table: u32,
+    wrong: RowsErr,
+) -> Stop
     requires { table < length schema.now.tables }
     ensures { let t = table_of schema.now table in
         IsRefusal t.name (wrong_column t wrong) (Status.BadRows site table wrong) result }
