@@ -1,5 +1,5 @@
 //! The answer to a query: both sites' rows are asked for, judged, and answered over their union.
-ghost use Rattle.std.specs.Prelude.{◌≡◌, ◌<◌, ◌-◌, ◌^◌, ◌++◌, ℕ, List, None, length, true, IfOk, MatchResult};
+ghost use Rattle.std.specs.Prelude.{◌≡◌, ◌<◌, ◌-◌, ◌^◌, ◌++◌, ℕ, List, None, Ok, length, true, IfOk, MatchResult};
 ghost use Rattle.std.specs.List.{All};
 ghost use Rattle.std.specs.String.{string_bytes};
 ghost use Rattle.pdn_base.specs.Operators.{Rows as RowsModel};
@@ -11,6 +11,7 @@ ghost use Rattle.pdn_plan.specs.Planning.{root};
 ghost use Rattle.pdn_tree.specs.Plans.{PlanModel};
 ghost use Rattle.pdn_tree.specs.Shapes.{shape};
 ghost use Rattle.pdn_site.specs.Models.{UnitModel};
+ghost use Rattle.pdn_broker.specs.Answered.{IsAnswered};
 ghost use Rattle.pdn_broker.specs.Prepared.{IsPrepared, PreparedForm};
 ghost use Rattle.pdn_query.specs.Answering.{
   answer_text,
@@ -21,8 +22,8 @@ ghost use Rattle.pdn_query.specs.Answering.{
   wrong_column,
 };
 ghost use Rattle.pdn_query.specs.Showing.{ThreeViews, parties_of, views_of, views_on};
-ghost use Rattle.pdn_query.specs.Gathering.{NotReady, AreReady, IsReady};
-ghost use Rattle.pdn_query.specs.Questions.{OnlyDesk};
+ghost use Rattle.pdn_query.specs.Gathering.{NotReady, AreReady, IsAnsweredOn, IsReady};
+ghost use Rattle.pdn_query.specs.Questions.{IsBound, OnlyDesk};
 ghost use Rattle.pdn_query.specs.Script.{Script};
 ghost use Rattle.pdn_query.specs.Walk.{Came};
 ghost use Rattle.pdn_script.specs.Stops.{IsRefusal};
@@ -110,6 +111,10 @@ pub fn answered_query<R: Threads + Sync, W: Outside, D: Deal + Watch>(
         Came (W.state world.old) (W.state world.new)
         (querying (D.tape crew.now.deal.now) schema.now query.now next)
         (λ q. next q.plan q.ticket q.answered.rows (views_of q.answered)) result }
+    ensures binds { IfOk result (λ q. IsBound schema.now query.now (Ok q.plan)) }
+    ensures there { IfOk result (λ q. q.ticket < 2 ^ 40) }
+    ensures is { IfOk result (λ q. IsAnsweredOn (D.tape crew.now.deal.now)
+        schema.now q.plan.root q.ticket q.answered) }
     ensures only { OnlyDesk (W.state world.old).told (W.state world.new).told }
 {
     let plan = bound(alloc, schema, query)?;
@@ -160,6 +165,7 @@ pub fn answer_prepared<R: Threads + Sync, D: Deal + Watch>(
     requires there { ticket < 2 ^ 40 }
     ensures rows { IfOk result (λ answered. answered.rows
         ≡ answer schema.now (union prepared.a.tables prepared.b.tables) query.now) }
+    ensures is { IfOk result (IsAnswered prepared (D.tape crew.now.deal.now) ticket) }
     ensures views { IfOk result (λ answered. views_of answered
         ≡ views_on prepared (D.tape crew.now.deal.now) ticket) }
 {

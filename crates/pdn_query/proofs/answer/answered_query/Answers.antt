@@ -40,3 +40,6 @@ returns-clause-came g c = queried (g.D.Deal.tape c.args.crew.now.deal.now) c.arg
     c.in_ok-plan.plan c.in_ok-prepared.prepared c.in_ok-ticket.ticket c.in_ok-answered.answered.rows _
     c.in_ok-plan.ensures.came c.in_ok-prepared.ensures.came c.in_ok-ticket.ensures.came
     c.in_ok-prepared.ensures.ready.form c.in_ok-answered.ensures.rows c.in_ok-answered.ensures.views
+
+pub returns-clause-is : goal.returns-clause-is
+returns-clause-is g c = record { p = c.in_ok-prepared.prepared; ready = c.in_ok-prepared.ensures.ready; is = c.in_ok-answered.ensures.is }
