@@ -1,9 +1,9 @@
 -- Two worlds that agree, and a query that is made ready in both.
-use Rattle.std.proofs.Common.{◌≡◌, ℕ, ◌+◌, ◌<◌, ◌-◌, ◌^◌, List, [], ◌∷◌, length, drop, get_or, arith, refl, sym, subst, ap, ◌∙◌, None, Some, Option, Result, Ok, inl, inr, ◌⊎◌}
-use Rattle.std.specs.Prelude.{true}
-use Rattle.std.specs.List.{slice_get}
+use Rattle.std.proofs.Common.{◌≡◌, ℕ, ◌+◌, ◌<◌, ◌-◌, ◌^◌, List, [], ◌∷◌, length, drop, get_or, arith, refl, sym, subst, ap, ◌∙◌, None, Some, Option, Result, Ok, Err, inl, inr, ◌⊎◌}
+use Rattle.std.specs.Prelude.{true, IfOk}
+use Rattle.std.specs.List.{All, slice_get}
 use Rattle.std.proofs.lemmas.List.{drop_more}
-use Rattle.std.proofs.lemmas.List.Elements.{All-get_or}
+use Rattle.std.proofs.lemmas.List.Elements.{All-get_or, All-from_get_or}
 use Rattle.pdn_base.specs.declared.marks.Kind.{Kind}
 use Rattle.pdn_base.specs.declared.rows_err.RowsErr.{RowsErr}
 use Rattle.pdn_base.specs.declared.rows_err.RowsErr.TheVariants.{TooMany, PerValue, WrongType}
@@ -11,7 +11,8 @@ use Rattle.pdn_base.specs.declared.site.Site.{Site}
 use Rattle.pdn_base.specs.declared.site.Site.TheVariants.{A, B}
 use Rattle.pdn_base.specs.declared.status.Status.TheVariants as status
 use Rattle.pdn_base.specs.Operators.{Rows}
-use Rattle.pdn_schema.specs.Models.{SchemaModel, TableModel, table_of}
+use Rattle.pdn_schema.specs.Models.{SchemaModel, TableModel, no_table, table_of}
+use Rattle.pdn_schema.specs.Schemas.{IsSchema, IsTable}
 use Rattle.pdn_schema.specs.Rows.{HasKinds, IsValid, AreValid, IsRefused}
 use Rattle.pdn_tree.specs.declared.node.Node.{Node}
 use Rattle.pdn_tree.specs.Shapes.{shape}
@@ -20,19 +21,22 @@ use Rattle.pdn_site.specs.Compiling.{Compiled}
 use Rattle.pdn_site.specs.Meaning.{numbers_fit}
 use Rattle.pdn_agree.specs.Agreement.{Union, Agree, SamePublic, other_tables}
 use Rattle.pdn_agree.specs.EqualShapes.{ShapesLaw, SameShapes}
+use Rattle.pdn_agree.specs.Spots.{IsSpot}
+use Rattle.pdn_site.proofs.SliceLaws.{all_at}
 use Rattle.pdn_broker.specs.Prepared.{PreparedModel, IsPrepared, prepared_of}
+use Rattle.pdn_broker.specs.Runs.{Tape}
 use Rattle.pdn_worlds.specs.TwoWorlds.{AreWorlds, union_of}
 use Rattle.pdn_twin.specs.declared.twins.Worlds.{Worlds}
 use Rattle.pdn_script.specs.declared.stop.Stop.{Stop}
 use Rattle.pdn_script.specs.Stops.{stop_of}
 use Rattle.pdn_query.specs.Answering.{units_over, or_large}
 use Rattle.pdn_query.specs.Gathering.{WrongTable, LargeUnit, NotReady, AreReady}
-use Rattle.pdn_query.specs.Script.{Script}
-use Rattle.pdn_query.specs.Walk.{NoMemory, Along, Leads}
+use Rattle.pdn_query.specs.Script.{Script, Say}
+use Rattle.pdn_query.specs.Walk.{NoMemory, Along, Leads, Came}
 use Rattle.pdn_query.specs.World.{WorldModel}
 use Rattle.pdn_query.proofs.Walks.{begun, halted, refused}
 use Rattle.pdn_commands.specs.HandedOn.{AreTablesOf, AreReadyWorlds}
-use Rattle.pdn_commands.specs.Twinning.{TwoWorlds, given_or, given_tables, second_world, first_ready, second_ready}
+use Rattle.pdn_commands.specs.Twinning.{TwoWorlds, given_or, given_tables, second_world, first_ready, second_ready, twin_of, twin_words, twin_text}
 
 -- ---- the second world's tables
 
@@ -50,6 +54,21 @@ pub agree_of : (s : SchemaModel) (site : Site) (first : Union) (tables : List Ro
     Agree site s first (second_world site first tables)
 agree_of s A first tables a b c same = record { valid_first = record { a = a; b = b }; valid_second = record { a = a; b = c }; own = refl; other = same }
 agree_of s B first tables a b c same = record { valid_first = record { a = a; b = b }; valid_second = record { a = c; b = b }; own = refl; other = same }
+
+-- the same, of the result of a comparison
+pub agree_where : (s : SchemaModel) (site : Site) (first : Union) (tables : List Rows) {X E : Type 0} (result : Result X E) → AreValid s first.a → AreValid s first.b → AreValid s tables →
+    IfOk result (λ x. IsSpot s (other_tables site first) tables None) → IfOk result (λ x. Agree site s first (second_world site first tables))
+agree_where s site first tables (Ok x) a b c same = agree_of s site first tables a b c same
+agree_where s site first tables (Err e) a b c same = tt
+
+-- valid tables have few rows
+pub few_tables : (s : SchemaModel) → IsSchema s → (tables : List Rows) → AreValid s tables → All (λ (rows : Rows). length rows < 2 ^ 32 - 1) tables
+few_tables s kept tables valid = All-from_get_or (λ (rows : Rows). length rows < 4294967295) tables [] (λ i l.
+    let count = valid.count in
+    let within : i < length s.tables = omega (arith, l, count) in
+    let rows = (valid.each i within).few in
+    let most = (all_at IsTable s.tables i no_table within kept.tables.each).head.most in
+    omega (arith, rows, most))
 
 -- ---- valid rows are not refused
 
@@ -141,3 +160,13 @@ first_stopped w root agree world next stop not = large world next w.schema root 
 
 pub units_on : (world : WorldModel) (next : List UnitModel → Script) (units : List UnitModel) (compiled : Compiled) → compiled ≡ Ok units → Leads world world (or_large next compiled) (next units)
 units_on world next units compiled e = subst (λ (c : Compiled). Leads world world (or_large next c) (next units)) (sym e) (begun world (next units))
+
+-- ---- what is put
+
+-- the twin's text, by what the worlds are
+pub twin_printed : (w : TwoWorlds) (root : Node) (both : Worlds) → AreReadyWorlds w root both → (tape : Tape) (number ticket : ℕ) →
+    twin_text both.site number ticket (twin_of both.site both.first both.second tape ticket) ≡ twin_text w.site number ticket (twin_words tape w root both.first.units ticket)
+twin_printed w root both ready tape number ticket = λ i. twin_text (ready.site i) number ticket (twin_of (ready.site i) (ready.first i) (ready.second i) tape ticket)
+
+pub came_same : {T : Type 0} (a b : WorldModel) (text other : List ℕ) (rest : Script) (result : Result T Stop) → text ≡ other → Came a b (Say text rest) (λ _. rest) result → Came a b (Say other rest) (λ _. rest) result
+came_same a b text other rest result is came = subst (λ (said : List ℕ). Came a b (Say said rest) (λ _. rest) result) is came

@@ -20,6 +20,7 @@ use Rattle.pdn_plan.specs.Answer.{answer}
 use Rattle.pdn_tree.specs.Plans.{PlanModel}
 use Rattle.pdn_desk_keeper.specs.Desks.{DeskHeld, with_ticket}
 use Rattle.pdn_query.specs.Answering.{units_over, answer_text, shown_text, answering, query_script, IsTaken, IsAnswer}
+use Rattle.pdn_query.specs.Showing.{views_on}
 use Rattle.pdn_query.specs.Questions.{Told, Unbound, Broken, Hidden, IsBound, Holds, IsSchemaIn, AreQueriesIn, AreRowsIn, Answer, New, Again, Differs, OverRows, OverPer, Batch, Gives, IsNext, after, with_desk, with_taken}
 use Rattle.pdn_query.specs.Script.{Script, Finish, Say, or_unbound}
 use Rattle.pdn_query.specs.Walk.{Refusals, Texts}
@@ -32,7 +33,7 @@ use Rattle.pdn_commands.proofs.Refusing.{in_inputs, in_read, in_asked, in_judged
 use Rattle.pdn_commands.proofs.Saying.{text_inputs, text_read, text_asked, text_judged, text_large, text_given, bound_text, numbered_text}
 
 -- why a refusal has a status: Done and Memory have none
-abbrev Refused : (Who → Type 0) → Told → List (List ℕ) → Status → Type 0
+abbrev pub Refused : (Who → Type 0) → Told → List (List ℕ) → Status → Type 0
 Refused rose told words status.Done = ⊥
 Refused rose told words status.Memory = ⊥
 Refused rose told words other = Cause rose told words other
@@ -75,7 +76,7 @@ module _ (tape : Tape) (rose : Who → Type 0) (told : Told) (words : List (List
   queries_caused all = in_numbered told (Refused rose told words) (IsTaken told.a told.b all.run.s) all.queries (query_script tape all.run.parties all.run.s) (λ number before later query next e taken left more.
       let reached : IsReached (IsTaken told.a told.b all.run.s) told.desk all.queries query = record { before = before; later = later; stands = e; taken = taken; left = left } in
       bound_caused all query reached (with_given (length before) told.desk) _ (λ plan binds.
-      planned_caused all query (λ ticket p rows. Say (answer_text number ticket plan.columns rows ++ shown_text all.run.parties tape p ticket) next) reached plan binds (λ is ticket few given p rows. more is ticket few given)))
+      planned_caused all query (λ ticket p rows. Say (answer_text number ticket plan.columns rows ++ shown_text all.run.parties (views_on p tape ticket)) next) reached plan binds (λ is ticket few given p rows. more is ticket few given)))
 
   answered_caused : (table : AskedTable told words) (rows : List (List Value)) → AreRowsIn (table_of table.load.s table.at) table.load.csv (Ok rows) → (answer : Answer) →
       Gives told (Batch table.load.site (table_of table.load.s table.at) table.load.number rows) answer →
@@ -139,11 +140,11 @@ module _ (tape : Tape) (rose : Who → Type 0) (told : Told) (words : List (List
 module _ (told : Told) where
   planned_text : (tape : Tape) (parties : List Party) (Q : List ℕ → Told → Type 0) (s : SchemaModel) (number : ℕ) (query : Query) (next : Script) (plan : PlanModel) → IsBound s query (Ok plan) →
       ((ticket : ℕ) (text : List ℕ) → ticket < 2 ^ 40 → IsNext told.desk ticket → IsAnswer tape parties told.a told.b s number ticket query text → Texts (with_taken told) (λ more now. Q (text ++ more) now) next) →
-      Texts told Q (answering s query plan (λ ticket p rows. Say (answer_text number ticket plan.columns rows ++ shown_text parties tape p ticket) next))
-  planned_text tape parties Q s number query next plan binds more = text_asked Q A plan.root 0 s.tables _ (λ a ha. text_asked Q B plan.root 0 s.tables _ (λ b hb.
-      text_judged Q A 0 s.tables a _ (λ va. text_judged Q B 0 s.tables b _ (λ vb. text_large Q _ (units_over s plan.root a b) (λ units fits.
-      let text : ℕ → List ℕ = λ ticket. answer_text number ticket plan.columns (answer s (union a b) query) ++ shown_text parties tape (prepared_of s plan.root a b units) ticket in
-      text_given Q (λ ticket. Say (text ticket) next) (λ ticket few is. more ticket (text ticket) few is (record {
+      Texts told Q (answering s query plan (λ ticket p rows. Say (answer_text number ticket plan.columns rows ++ shown_text parties (views_on p tape ticket)) next))
+  planned_text tape parties Q s number query next plan binds more = text_asked told Q A plan.root 0 s.tables _ (λ a ha. text_asked told Q B plan.root 0 s.tables _ (λ b hb.
+      text_judged told Q A 0 s.tables a _ (λ va. text_judged told Q B 0 s.tables b _ (λ vb. text_large told Q _ (units_over s plan.root a b) (λ units fits.
+      let text : ℕ → List ℕ = λ ticket. answer_text number ticket plan.columns (answer s (union a b) query) ++ shown_text parties (views_on (prepared_of s plan.root a b units) tape ticket) in
+      text_given told Q (λ ticket. Say (text ticket) next) (λ ticket few is. more ticket (text ticket) few is (record {
         taken = record { plan = plan; binds = binds; a = a; b = b; held_a = ha; held_b = hb; valid_a = va; valid_b = vb; units = units; fits = fits };
         printed = refl;
       })))))))
@@ -151,7 +152,7 @@ module _ (told : Told) where
   reports_text : (Q : List ℕ → Told → Type 0) (s : SchemaModel) (number : ℕ) (queries : List Query) (next : List ℕ → Script) → ((text : List ℕ) → AreReported s number queries text → Texts told Q (next text)) →
       Texts told Q (reporting s number queries next)
   reports_text Q s number [] next done = done [] refl
-  reports_text Q s number (query ∷ queries) next done = bound_text Q s query _ (λ plan binds. reports_text Q s (number + 1) queries (λ more. next (query_report s number query plan ++ more))
+  reports_text Q s number (query ∷ queries) next done = bound_text told Q s query _ (λ plan binds. reports_text Q s (number + 1) queries (λ more. next (query_report s number query plan ++ more))
       (λ more are. done (query_report s number query plan ++ more) (plan, more, binds, refl, are)))
 
 module _ (tape : Tape) (told : Told) (words : List (List ℕ)) where

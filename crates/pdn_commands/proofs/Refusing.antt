@@ -86,12 +86,12 @@ module _ (told : Told) (P : Status → Type 0) where
   in_there next ticket true e spent more = more (ltb-true ticket (2 ^ 40) e)
   in_there next ticket false e spent more = spent (ltb-false ticket (2 ^ 40) e)
 
+-- ---- a ticket, and a step for each
+module _ (told : Told) (P : Status → Type 0) where
   pub in_given : (next : ℕ → Script) → ((ticket : ℕ) → 2 ^ 40 ≤ ticket → IsNext told.desk ticket → P status.TicketsSpent) →
       ((ticket : ℕ) → ticket < 2 ^ 40 → IsNext told.desk ticket → Refusals (with_taken told) P (next ticket)) → Refusals told P (ticketing next)
   in_given next spent more = λ ticket is. in_there (with_taken told) P next ticket (nat_lt ticket (2 ^ 40)) refl (λ most. spent ticket most is) (λ few. more ticket few is)
 
--- ---- a step for each
-module _ (told : Told) (P : Status → Type 0) where
   pub in_each : {X Y : Type 0} (step : X → (Y → Script) → Script) (Is : X → Y → Type 0) →
       ((x : X) (next : Y → Script) → ((y : Y) → Is x y → Refusals told P (next y)) → Refusals told P (step x next)) →
       (xs : List X) (next : List Y → Script) → ((ys : List Y) → EachWith Is xs ys → Refusals told P (next ys)) → Refusals told P (each step xs next)

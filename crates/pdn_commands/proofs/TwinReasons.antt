@@ -87,10 +87,6 @@ module _ (tape : Tape) (rose : Who → Type 0) (told : Told) (words : List (List
       λ spot is. in_compared told (Refused rose told words) s (other_tables rows.all.twin.site rows.first) (second_tables rows) _ spot is (λ at differs. inr (record { valid = valid; spot = differs }))
       (λ same. queries_caused (record { valid = valid; agree = same })))))
 
-  rows_caused : (all : AskedTwins told words) (given : List (Option Rows)) → EachWith FileGives (zip all.twin.s.tables all.texts) given → (a b : List Rows) →
-      EachWith (λ (t : TableModel) rows. Keeps told.a t.name rows) all.twin.s.tables a → EachWith (λ (t : TableModel) rows. Keeps told.b t.name rows) all.twin.s.tables b → TwinRows told words
-  rows_caused all given gives a b ha hb = record { all = all; given = given; gives = gives; first = record { a = a; b = b }; held_a = ha; held_b = hb }
-
   pub twin_caused : (site : Site) (file folder : List ℕ) (workers : ℕ) → task_of words ≡ Some (Twin site file folder workers) → Caused (twin_script tape site file folder)
   twin_caused site file folder workers e = in_inputs told (Refused rose told words) file _ (λ name is h. inl ((Twin site file folder workers, e, is), h))
       (λ net text hn ht line cause is. inl (record { task = Twin site file folder workers; asked = e; net = net; text = text; net_held = hn; text_held = ht; is = is }))
@@ -101,7 +97,7 @@ module _ (tape : Tape) (rose : Who → Type 0) (told : Told) (words : List (List
       in_files told (Refused rose told words) (zip s.tables texts) _ (λ entry cause bad. inr (all, bad)) (λ given gives.
       in_each told (Refused rose told words) (keeping A) (λ t rows. Keeps told.a t.name rows) (λ t next more rows h. more rows h) s.tables _ (λ a ha.
       in_each told (Refused rose told words) (keeping B) (λ t rows. Keeps told.b t.name rows) (λ t next more rows h. more rows h) s.tables _ (λ b hb.
-      worlds_caused (rows_caused all given gives a b ha hb)))))))
+      worlds_caused (record { all = all; given = given; gives = gives; first = record { a = a; b = b }; held_a = ha; held_b = hb })))))))
 
 -- ---- what Done comes with
 module _ (tape : Tape) (told : Told) (words : List (List ℕ)) where

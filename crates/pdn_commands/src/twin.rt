@@ -108,6 +108,7 @@ fn twin_query<R: Threads + Sync, W: Outside, D: Deal + Watch>(
 }
 
 // The text of a query's twin, where it is made ready in both worlds.
+#[tactic(auto, unfolding(crate::specs::Twinning::twin_of))]
 fn twinned<R: Threads + Sync, D: Deal + Watch>(
     alloc: Global,
     worlds: Worlds,
@@ -177,6 +178,8 @@ fn ready_in(alloc: Global, schema: &Schema, plan: &Plan, tables: &Union) -> Resu
         (AreReady schema.now plan.now.root tables.now.a tables.now.b)
         (NotReady schema.now plan.now.root tables.now.a tables.now.b) }
 {
+    // what a schema keeps is known once it is looked at
+    let _floor = schema.floor;
     let a = tables.a.copy(alloc)?;
     let b = tables.b.copy(alloc)?;
     ready(alloc, schema, plan, a, b)

@@ -1,6 +1,8 @@
-use Rattle.std.proofs.Common.{map, Some}
+use Rattle.std.proofs.Common.{map, [], None, Some}
+use Rattle.pdn_base.specs.declared.status.Status.TheVariants as status
 use Rattle.std.specs.String.{string_bytes}
 use Rattle.pdn_commands.specs.Commands.{Run, Check, Twin, Load}
+use Rattle.pdn_query.proofs.Walks.{refused}
 use Rattle.pdn_commands.proofs.Tasks.{asked}
 use Rattle.pdn_commands.proofs.Tasks.{kept_a, kept_b, run_takes, twin_takes, load_takes_none}
 use Rattle.pdn_commands.proofs.top.follow.Goals as goal
@@ -33,3 +35,6 @@ returns-in-Some-Run-clause-desk g c = run_takes c.in-Some-Run.file.now _ _ _ (rw
 
 pub returns-in-Some-Load-clause-desk : goal.returns-in-Some-Load-clause-desk
 returns-in-Some-Load-clause-desk g c = λ off. load_takes_none c.in-Some-Load.site _ _ c.load.ensures.only
+
+pub returns-in-None-clause-goes : goal.returns-in-None-clause-goes
+returns-in-None-clause-goes g c = asked (g.D.Deal.tape c.args.deal.now) (map string_bytes c.args.words.now) None c.in-None.ensures (refused _ [] [] status.Words _ c.refused.ensures)
