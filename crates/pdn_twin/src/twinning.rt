@@ -3,7 +3,14 @@ ghost use Rattle.std.specs.Prelude.{◌≡◌, ◌≤◌, ◌<◌, ◌^◌, ◌+
 ghost use Rattle.pdn_broker.specs.Running.{unit_at};
 ghost use Rattle.pdn_broker.specs.Units.{is_secure};
 ghost use Rattle.pdn_worlds.specs.TwoWorlds.{AreWorlds};
-ghost use Rattle.pdn_twin.specs.Twins.{IsTwin, SeesTheSame, GivesBack, KeepsTheRest};
+ghost use Rattle.pdn_twin.specs.Twins.{
+  IsTwin,
+  AreShapedAlike,
+  SeesTheSame,
+  GivesBack,
+  KeepsTheRest,
+  KeepsLengths,
+};
 ghost use Rattle.pdn_twin.specs.UnitTwins.{secure_twin, secure_twins, root_twin, root_start};
 ghost use Rattle.pdn_twin.specs.TwinRuns.{AreSecureRuns, AreTwinRuns};
 
@@ -166,8 +173,10 @@ fn kept_twin<R: Threads + Sync, D: Deal>(
 /// and for each section the places at which the change alters a word. Each section is dealt once, and the two worlds of a unit are
 /// run in one job.
 ///
-/// The change is one to one: made from the second world to the first, after it, it gives each word back. It alters no word outside
-/// the sections of this ticket.
+/// All that isn't a row is the same in both worlds: the directories, and the units with their circuits. Whatever the tape, the site
+/// sees in the second world on the changed tape what it sees in the first. The change is one to one: made from the second world to the
+/// first, after it, it gives each word back. It alters no word outside the sections of this ticket, and each section keeps its length.
+/// This is promised whatever the answer, Memory too.
 ///
 /// The worlds are one query, made ready over two unions that agree for the site: the site's own tables are equal, and each public
 /// column of the other site has the same set of values. At most one of them is real. The call sees both, and the whole tape: it is
@@ -187,9 +196,11 @@ pub fn twin<R: Threads + Sync, D: Deal>(
     requires workers { (1 ≤ workers) × (workers ≤ 16) }
     ensures is { IfOk result
         (IsTwin worlds.site worlds.first worlds.second (D.tape deal.now) ticket) }
+    ensures shapes { AreShapedAlike worlds.first worlds.second }
     ensures same { SeesTheSame worlds.site worlds.first worlds.second ticket }
     ensures back { GivesBack worlds.site worlds.first worlds.second ticket }
     ensures others { KeepsTheRest worlds.site worlds.first worlds.second ticket }
+    ensures lengths { KeepsLengths worlds.site worlds.first worlds.second ticket }
 {
     kept_twin(rt, alloc, &worlds, ticket, deal, workers)
 }
