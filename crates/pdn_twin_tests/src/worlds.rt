@@ -2,9 +2,9 @@
 ghost use Rattle.std.specs.Prelude.{◌≡◌, true, length, IfOk};
 ghost use Rattle.pdn_tree.specs.Shapes.{shape};
 ghost use Rattle.pdn_agree.specs.Agreement.{SamePublic};
-ghost use Rattle.pdn_broker.specs.Prepared.{IsPrepared};
+ghost use Rattle.pdn_broker.specs.Prepared.{IsOf, IsPrepared};
 ghost use Rattle.pdn_worlds.specs.TwoWorlds.{AreWorlds};
-ghost use Rattle.pdn_twin_tests.specs.Pairs.{AreTwo, IsReady};
+ghost use Rattle.pdn_twin_tests.specs.Pairs.{AreTwo, IsReady, union_of};
 
 use pdn_agree::disagree;
 use pdn_base::{Memory, Site, Tables};
@@ -14,7 +14,29 @@ use pdn_schema::Schema;
 use pdn_twin::Worlds;
 use std::alloc::Global;
 
-/// The query, made ready where this site has the own tables.
+// The query, made ready where this site has the own tables.
+fn prepared(
+    alloc: Global,
+    site: Site,
+    schema: &Schema,
+    plan: &Plan,
+    own: Tables,
+    other: Tables,
+) -> Result<Prepared, PrepareErr>
+    requires sound { (shape schema.now plan.now.root).sound ≡ true }
+    requires two { length schema.now.tables ≡ 2 }
+    requires own { AreTwo own }
+    requires other { AreTwo other }
+    ensures { let both = union_of site own other in
+        IfOk result (IsOf schema.now plan.now.root both.a both.b) }
+{
+    match site {
+        Site::A => prepare(alloc, schema, plan, own, other),
+        Site::B => prepare(alloc, schema, plan, other, own),
+    }
+}
+
+/// The same over equal tables.
 pub fn ready(
     alloc: Global,
     site: Site,
@@ -30,15 +52,9 @@ pub fn ready(
     ensures { IfOk result (IsReady site schema.now plan.now.root own.now other.now) }
 {
     let (own, other) = (own.copy(alloc)?, other.copy(alloc)?);
-    let made = match site {
-        Site::A => prepare(alloc, schema, plan, own, other),
-        Site::B => prepare(alloc, schema, plan, other, own),
-    };
-    match made {
+    match prepared(alloc, site, schema, plan, own, other) {
         Ok(prepared) => Ok(looked_at(prepared)),
-        Err(PrepareErr::Rows { .. } | PrepareErr::TooLarge { .. } | PrepareErr::Memory) => {
-            Err(Memory)
-        }
+        Err(_) => Err(Memory),
     }
 }
 
