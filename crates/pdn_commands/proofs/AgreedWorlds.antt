@@ -25,7 +25,7 @@ use Rattle.pdn_agree.specs.Spots.{IsSpot}
 use Rattle.pdn_site.proofs.SliceLaws.{all_at}
 use Rattle.pdn_broker.specs.Prepared.{PreparedModel, IsPrepared, prepared_of}
 use Rattle.pdn_broker.specs.Runs.{Tape}
-use Rattle.pdn_worlds.specs.TwoWorlds.{AreWorlds, union_of}
+use Rattle.pdn_worlds.specs.TwoWorlds.{AreWorlds, SecondWorldLaw, TranscriptLaw, union_of}
 use Rattle.pdn_twin.specs.declared.twins.Worlds.{Worlds}
 use Rattle.pdn_script.specs.declared.stop.Stop.{Stop}
 use Rattle.pdn_script.specs.Stops.{stop_of}
@@ -36,7 +36,7 @@ use Rattle.pdn_query.specs.Walk.{NoMemory, Along, Leads, Came}
 use Rattle.pdn_query.specs.World.{WorldModel}
 use Rattle.pdn_query.proofs.Walks.{begun, halted, refused}
 use Rattle.pdn_commands.specs.HandedOn.{AreTablesOf, AreReadyWorlds}
-use Rattle.pdn_commands.specs.Twinning.{TwoWorlds, given_or, given_tables, second_world, first_ready, second_ready, twin_of, twin_words, twin_text}
+use Rattle.pdn_commands.specs.Twinning.{TwoWorlds, given_or, given_tables, second_world, first_ready, second_ready, twin_of, twin_words, twin_text, EqualViewsLaw}
 
 -- ---- the second world's tables
 
@@ -170,3 +170,10 @@ twin_printed w root both ready tape number ticket = λ i. twin_text (ready.site 
 
 pub came_same : {T : Type 0} (a b : WorldModel) (text other : List ℕ) (rest : Script) (result : Result T Stop) → text ≡ other → Came a b (Say text rest) (λ _. rest) result → Came a b (Say other rest) (λ _. rest) result
 came_same a b text other rest result is came = subst (λ (said : List ℕ). Came a b (Say said rest) (λ _. rest) result) is came
+
+-- ---- what the site sees in both
+
+pub equal_views : SecondWorldLaw → TranscriptLaw → EqualViewsLaw
+unfolding twin_of
+equal_views worlds same tape w root units ticket ready agree a b =
+    same w.site (first_ready w root units) (second_ready w root units) (worlds w.site (first_ready w root units) w.second ready agree a b) tape ticket

@@ -1,5 +1,5 @@
 -- What `twin` asks and says: of each query a site's view in two worlds, and where the tape is changed between them.
-use Rattle.std.specs.Prelude.{ℕ, ◌+◌, List, [], ◌∷◌, ◌++◌, Option, Some, None, codes, decimal}
+use Rattle.std.specs.Prelude.{◌≡◌, ℕ, ◌+◌, List, [], ◌∷◌, ◌++◌, Option, Some, None, codes, decimal}
 use Rattle.std.specs.List.{flat_map, zip}
 use Rattle.pdn_base.specs.Operators.{Rows}
 use Rattle.pdn_base.specs.Texts.{line, site_text}
@@ -9,10 +9,11 @@ use Rattle.pdn_schema.specs.Models.{SchemaModel, TableModel}
 use Rattle.pdn_sql.specs.declared.query.Query.{Query}
 use Rattle.pdn_tree.specs.declared.node.Node.{Node}
 use Rattle.pdn_tree.specs.Plans.{PlanModel}
+use Rattle.pdn_site.specs.Meaning.{AreTables}
 use Rattle.pdn_site.specs.Models.{UnitModel}
-use Rattle.pdn_agree.specs.Agreement.{Union, other_tables}
+use Rattle.pdn_agree.specs.Agreement.{Union, Agree, other_tables}
 use Rattle.pdn_view.specs.Lines.{view_text}
-use Rattle.pdn_broker.specs.Prepared.{PreparedModel, prepared_of}
+use Rattle.pdn_broker.specs.Prepared.{PreparedModel, IsPrepared, prepared_of}
 use Rattle.pdn_broker.specs.Runs.{Tape}
 use Rattle.pdn_broker.specs.Views.{site_view}
 use Rattle.pdn_worlds.specs.TapeChange.{shift_tape}
@@ -71,6 +72,12 @@ twin_of site p q tape ticket = record {
 
 abbrev pub twin_words : Tape → TwoWorlds → Node → List UnitModel → ℕ → TwinWords
 twin_words tape w root units ticket = twin_of w.site (first_ready w root units) (second_ready w root units) tape ticket
+
+-- Both views of a twin are equal, whatever the tape: where the worlds agree for the site, the query is ready in the first, and the
+-- second's tables have values of the code's types.
+abbrev pub EqualViewsLaw : Type 0
+EqualViewsLaw = (tape : Tape) (w : TwoWorlds) (root : Node) (units : List UnitModel) (ticket : ℕ) → IsPrepared (first_ready w root units) → Agree w.site w.schema w.first w.second
+    → AreTables w.schema w.second.a → AreTables w.schema w.second.b → (twin_words tape w root units ticket).second ≡ (twin_words tape w root units ticket).first
 
 -- ---- the text
 

@@ -13,6 +13,6 @@ mod twin;
 mod twin_text;
 mod worlds;
 
-pub use laws::scripts_are_the_same_on_every_tape;
+pub use laws::{scripts_are_the_same_on_every_tape, twins_have_equal_views};
 pub use pdn_query::{Outside, World};
 pub use top::pdn;

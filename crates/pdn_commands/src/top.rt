@@ -40,7 +40,8 @@ pub fn pdn<R: Threads + Sync, W: Outside, D: Deal + Watch>(
         (script (D.tape deal.now) (map string_bytes words.now)) result }
 
     // Done comes only with the answer of each query over the rows of both sites, the schema with the report of each query, the
-    // line of the batch that is then kept, or the twin of each query in two worlds that agree in what is public.
+    // line of the batch that is then kept, or the twin of each query in two worlds that agree in what is public. That both views of
+    // such a twin are equal is `twins_have_equal_views`.
     ensures counted { let old = W.state world.old in let new = W.state world.new in
         result ≡ Status.Done → Wrote old.written new.written (λ text.
         IsAllDone (D.tape deal.now) old.told (map string_bytes words.now) text new.told) }
