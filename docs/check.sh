@@ -95,7 +95,7 @@ for path in documents:
             elif text.endswith(FILES) and PATH.match(text):
                 if not is_there(text, near, folder) and text not in words and not re.match(r"^[ab]\.db|desk\.db|tape\.key|q\.sql", text):
                     say(path, number, f"no file {text}")
-            elif NAME.match(text):
+            elif NAME.match(text) and not re.fullmatch(r"[0-9a-f]{16}", text):
                 for part in re.split(r"::|\.", text.rstrip("()").lstrip("&")):
                     if part not in words and not part.startswith(("refused", "fault")):
                         say(path, number, f"no name {text}")

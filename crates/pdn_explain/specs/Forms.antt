@@ -1,17 +1,11 @@
 -- Forms of lines, and which lines have them.
-use Rattle.std.specs.Prelude.{ℕ, suc, List, [], ◌∷◌, length, take, drop, Bool, false, ◌&&◌, ◌||◌, not, if◌then◌else◌, nat_le, nat_lt, ◌==◌, Option, Some, None}
+use Rattle.std.specs.Prelude.{ℕ, List, [], ◌∷◌, length, take, drop, Bool, false, ◌&&◌, ◌||◌, not, if◌then◌else◌, nat_lt, ◌==◌, Option, Some, None}
+use Rattle.std.specs.Char.{is_ascii_digit}
+use Rattle.std.specs.List.{prefix_len}
 use Rattle.pdn_explain.specs.declared.table.Told.{Told}
 
-abbrev pub is_digit : ℕ → Bool
-is_digit b = nat_le 48 b && nat_le b 57
-
-abbrev pub is_word_byte : ℕ → Bool
-is_word_byte b = not (b == 32)
-
--- how many bytes at the front pass the test
-abbrev pub run : (ℕ → Bool) → List ℕ → ℕ
-run test [] = 0
-run test (b ∷ bs) = if test b then suc (run test bs) else 0
+abbrev pub is_no_blank : ℕ → Bool
+is_no_blank byte = not (byte == 32)
 
 -- digits are a number: there are some, and no zero stands before another
 abbrev pub is_number : List ℕ → Bool
@@ -26,8 +20,8 @@ begins byte (b ∷ bs) = b == byte
 abbrev pub fits : List ℕ → List ℕ → Bool
 fits [] line = length line == 0
 fits (f ∷ form) line =
-    if f == 35 then is_number (take (run is_digit line) line) && fits form (drop (run is_digit line) line)
-    else if f == 42 then nat_lt 0 (run is_word_byte line) && fits form (drop (run is_word_byte line) line)
+    if f == 35 then is_number (take (prefix_len is_ascii_digit line) line) && fits form (drop (prefix_len is_ascii_digit line) line)
+    else if f == 42 then nat_lt 0 (prefix_len is_no_blank line) && fits form (drop (prefix_len is_no_blank line) line)
     else if f == 126 then length form == 0
     else begins f line && fits form (drop 1 line)
 

@@ -1,6 +1,8 @@
 //! Which form a line has.
 ghost use Rattle.std.specs.Prelude.{◌≡◌, ◌≤◌, length, option_map};
-ghost use Rattle.pdn_explain.specs.Forms.{fits, is_digit, is_number, is_word_byte, meaning, run};
+ghost use Rattle.std.specs.Char.{is_ascii_digit};
+ghost use Rattle.std.specs.List.{prefix_len};
+ghost use Rattle.pdn_explain.specs.Forms.{fits, is_no_blank, is_number, meaning};
 
 use crate::table::{LINES, Told};
 
@@ -22,40 +24,20 @@ pub fn meaning(lines: &[Told], line: &[u8]) -> Option<&'static str>
     None
 }
 
-fn is_digit(byte: u8) -> bool
-    ensures { result ≡ is_digit byte }
-{
-    48 <= byte && byte <= 57
-}
-
-fn is_word_byte(byte: u8) -> bool
-    ensures { result ≡ is_word_byte byte }
-{
-    byte != 32
-}
-
 // How many digits stand at the front.
 fn digits(line: &[u8]) -> usize
-    ensures is { result ≡ run is_digit line.now }
+    ensures is { result ≡ prefix_len is_ascii_digit line.now }
     ensures within { result ≤ length line.now }
 {
-    let mut n = 0;
-    while n < line.len() && is_digit(line[n]) {
-        n += 1;
-    }
-    n
+    line.iter().take_while(|byte| byte.is_ascii_digit()).count()
 }
 
 // How many bytes stand before the first blank or the end.
 fn word_len(line: &[u8]) -> usize
-    ensures is { result ≡ run is_word_byte line.now }
+    ensures is { result ≡ prefix_len is_no_blank line.now }
     ensures within { result ≤ length line.now }
 {
-    let mut n = 0;
-    while n < line.len() && is_word_byte(line[n]) {
-        n += 1;
-    }
-    n
+    line.iter().take_while(|byte| **byte != b' ').count()
 }
 
 fn is_number(digits: &[u8]) -> bool
@@ -63,7 +45,7 @@ fn is_number(digits: &[u8]) -> bool
 {
     match digits {
         [] => false,
-        [first, more @ ..] => *first != 48 || more.is_empty(),
+        [first, more @ ..] => *first != b'0' || more.is_empty(),
     }
 }
 
