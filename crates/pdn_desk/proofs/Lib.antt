@@ -1,0 +1,5 @@
+pub mod Coming
+mod Statuses
+mod Queries
+mod Bounds
+mod Serving
