@@ -1,6 +1,8 @@
 -- Going along a course from world to world.
 use Rattle.std.proofs.Common.{◌≡◌, ℕ, List, [], ◌∷◌, Option, None, Some, Result, Ok, Err, refl, sym, subst, ap, ◌∙◌, inl, inr, ◌⊎◌}
-use Rattle.std.specs.Prelude.{IfOk, IfSome, IsErrOf}
+use Rattle.std.specs.Prelude.{IfOk, IfSome, IsErrOf, Bool, false, nat_le, codes, if◌then◌else◌}
+use Rattle.std.specs.List.{slice_get}
+use Rattle.pdn_schema.specs.Models.{SchemaModel}
 use Rattle.pdn_base.specs.declared.memory.Memory.{Memory}
 use Rattle.pdn_base.specs.declared.status.Status.{Status}
 use Rattle.pdn_base.specs.declared.status.Status.TheVariants as status
@@ -22,7 +24,8 @@ use Rattle.pdn_query.specs.Script.{Script, Finish, Refuse}
 use Rattle.pdn_query.specs.World.{WorldModel, Counts, RoseIn, NotFallen, Beside}
 use Rattle.pdn_query.proofs.Walks.{steady, not_fallen, rose_within, only_both, only_same}
 use Rattle.pdn_desk.specs.Calls.{Called, with_kept}
-use Rattle.pdn_desk.specs.Courses.{Course, Reply, Find, Count, Read, Answer, Keep}
+use Rattle.pdn_desk.specs.Courses.{Course, Reply, Find, Count, Read, Answer, Keep, failing}
+use Rattle.pdn_desk.specs.Requests.{calling, calls_of, answering_text}
 use Rattle.pdn_desk.specs.Replies.{ReplyBytes, reply, desk_failure}
 use Rattle.pdn_desk.specs.Ways.{End, Replied, NoMemory, Makes, Comes, Came, On, CameBy, Fails, StopMakes, IsUnsaid, Says, end_of}
 
@@ -69,6 +72,15 @@ later_on old mid new course end later c = comes_within (RoseIn mid.counts new.co
 
 -- ---- the desk's keeper is asked
 
+abbrev unfound : KeepErr → Result (Option KeptText) KeepErr
+unfound e = Err e
+
+abbrev uncounted : KeepErr → Result ℕ KeepErr
+uncounted e = Err e
+
+abbrev not_kept : KeepErr → Result (Unit {0}) KeepErr
+not_kept e = Err e
+
 module _ {old mid : WorldModel} {step : desks.Step} {failed : Type 0} (called : Called old mid step failed) where
   pub unchanged : mid.told.desk ≡ old.told.desk → mid.told ≡ old.told
   unchanged e = none_changed old.told mid.told called.only e
@@ -98,12 +110,12 @@ module _ {old mid : WorldModel} where
   pub counted : (caller : ℕ) (next : ℕ → Course) (x : ℕ) {failed : Type 0} → Called old mid (desks.Count caller (Ok x)) failed → On old mid (Count caller next) (next x)
   counted caller next x called = on_after called called.stands (Count caller next) (next x) (λ rose end now c. inr (inr (x, called.answer, c)))
 
-  pub not_found : (call : Call) (next : Option KeptText → Course) (e : KeepErr) (end : End) → Called old mid (desks.Find call.caller call.number (Err e)) (IsErrOf (Err {T = Option KeptText} e) unkept.Failed) →
+  pub not_found : (call : Call) (next : Option KeptText → Course) (e : KeepErr) (end : End) → Called old mid (desks.Find call.caller call.number (Err e)) (IsErrOf (unfound e) unkept.Failed) →
       Fails e end → Came old mid (Find call next) end
   not_found call next unkept.Failed end called made = ends_after called called.stands (Find call next) end (inr (inl (refl, called.cause refl, made)))
   not_found call next unkept.Memory end called is = ends_after called called.stands (Find call next) end (inl (refl, is))
 
-  pub not_counted : (caller : ℕ) (next : ℕ → Course) (e : KeepErr) (end : End) → Called old mid (desks.Count caller (Err e)) (IsErrOf (Err {T = ℕ} e) unkept.Failed) →
+  pub not_counted : (caller : ℕ) (next : ℕ → Course) (e : KeepErr) (end : End) → Called old mid (desks.Count caller (Err e)) (IsErrOf (uncounted e) unkept.Failed) →
       Fails e end → Came old mid (Count caller next) end
   not_counted caller next unkept.Failed end called made = ends_after called called.stands (Count caller next) end (inr (inl (refl, called.cause refl, made)))
   not_counted caller next unkept.Memory end called is = ends_after called called.stands (Count caller next) end (inl (refl, is))
@@ -121,7 +133,7 @@ module _ {old mid : WorldModel} where
   may_be_kept call text called (inl e) = inl (unchanged called e)
   may_be_kept call text called (inr e) = inr (kept_is call text called e)
 
-  pub keep_failed : (call : Call) (text : KeptText) → Called old mid (desks.Keep call.caller call.number text (Err unkept.Failed)) (IsErrOf (Err {T = Unit {0}} unkept.Failed) unkept.Failed) → Came old mid (Keep call text) (Replied desk_failure)
+  pub keep_failed : (call : Call) (text : KeptText) → Called old mid (desks.Keep call.caller call.number text (Err unkept.Failed)) (IsErrOf (not_kept unkept.Failed) unkept.Failed) → Came old mid (Keep call text) (Replied desk_failure)
   keep_failed call text called = record { comes = inr (inl (may_be_kept call text called called.stands, called.cause refl, refl)); only = called.only; later = called.beside.later }
 
   pub keep_short : (call : Call) (text : KeptText) {failed : Type 0} → Called old mid (desks.Keep call.caller call.number text (Err unkept.Memory)) failed → Came old mid (Keep call text) NoMemory
@@ -140,6 +152,13 @@ module _ (w : WorldModel) where
   pub keeps_short : (call : Call) (text : KeptText) → Came w w (Keep call text) NoMemory
   keeps_short call text = stays (Keep call text) NoMemory (inl (refl, refl))
 
+-- the calls of a caller aren't spent
+pub not_spent : (old mid : WorldModel) (s : SchemaModel) (call : Call) (text : List ℕ) (count : ℕ) {failed : Type 0} → nat_le (calls_of (slice_get s.callers call.caller)) count ≡ false →
+    Called old mid (desks.Count call.caller (Ok count)) failed → On old mid (calling s call text) (answering_text s call text)
+not_spent old mid s call text count e called =
+    let next : ℕ → Course = λ count. if nat_le (calls_of (slice_get s.callers call.caller)) count then failing 429 (codes "spent") else answering_text s call text in
+    subst (λ (rest : Course). On old mid (Count call.caller next) rest) (ap (λ (b : Bool). if b then failing 429 (codes "spent") else answering_text s call text) e) (counted call.caller next count called)
+
 -- a reply that is made, unless memory runs out
 pub makes : (made : ReplyBytes) (result : Result ReplyBytes Memory) → IfOk result (λ x. x ≡ made) → Makes made (end_of result)
 makes made (Ok x) is = inl (ap Replied is)
@@ -151,7 +170,7 @@ module _ {old new : WorldModel} where
   read_on : (text : List ℕ) (next : Query → Course) (query : Query) (end : End) → SaysQueries 1 text (query ∷ []) → Came old new (next query) end → Came old new (Read text next) end
   read_on text next query end says c = record { comes = inr (inr (query, says, c.comes)); only = c.only; later = c.later }
 
-module _ {T : Type 0} {old new : WorldModel} where
+module _ {T : Type 0} (old new : WorldModel) where
   pub read_by : (text : List ℕ) (next : Query → Course) (query : Query) (rest : T → Course) (result : Result T Stop) → SaysQueries 1 text (query ∷ []) → CameBy old new (next query) rest result → CameBy old new (Read text next) rest result
   read_by text next query rest (Ok x) says came = λ last end c. read_on text next query end says (came last end c)
   read_by text next query rest (Err stop) says came = λ end made. read_on text next query end says (came end made)

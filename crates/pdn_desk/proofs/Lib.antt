@@ -1,5 +1,7 @@
 pub mod Coming
 mod Statuses
 mod Queries
-mod Bounds
 mod Serving
+mod Repeating
+mod Apart
+mod Asking

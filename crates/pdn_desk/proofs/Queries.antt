@@ -21,7 +21,7 @@ use Rattle.pdn_script.specs.declared.stop.Stop.TheVariants as stop
 use Rattle.pdn_script.specs.Stops.{stop_of, IsRefusal}
 use Rattle.pdn_query.specs.Answering.{querying}
 use Rattle.pdn_query.specs.DeskCalls.{AsksTickets}
-use Rattle.pdn_query.specs.Questions.{Told, OnlyDesk}
+use Rattle.pdn_query.specs.Questions.{Told, OnlyDesk, questions}
 use Rattle.pdn_query.specs.Script.{Script, Finish, Refuse, Say, Ask}
 use Rattle.pdn_query.specs.Walk.{Goes, Follows, Closes, Along, Leads, fault, End as Stopped, Finished, PutFailed, Refused, NoMemory as OutOfMemory}
 use Rattle.pdn_query.specs.World.{WorldModel, RoseIn, NotFallen}
@@ -46,11 +46,11 @@ one_query bytes (query ∷ queries) says few = omega (arith, few)
 
 -- ---- the desk's calls stay
 
-line_of : Stopped → List ℕ
+abbrev line_of : Stopped → List ℕ
 line_of (Refused refused line) = line
 line_of other = []
 
-ends_with : Stopped → Status
+abbrev ends_with : Stopped → Status
 ends_with Finished = status.Done
 ends_with OutOfMemory = status.Memory
 ends_with PutFailed = status.Unavailable Sink
@@ -62,7 +62,7 @@ closes rose OutOfMemory = (refl, refl)
 closes rose PutFailed = (refl, refl)
 closes rose (Refused refused line) = (refl, inl refl)
 
-goes_asked : (rose : Who → Type 0) (told : Told) (script : Script) (out : List ℕ) (end : Stopped) (now : Told) → Goes rose told script out end now → AsksTickets told.desk now.desk
+pub goes_asked : (rose : Who → Type 0) (told : Told) (script : Script) (out : List ℕ) (end : Stopped) (now : Told) → Goes rose told script out end now → AsksTickets told.desk now.desk
 goes_asked rose told script out end now w = follows_asked rose told script (out ++ line_of end) (ends_with end) now
     (record { end = end; front = out; last = line_of end; whole = refl; goes = w; closes = closes rose end })
 
@@ -98,14 +98,14 @@ still_free caller number old new (answers, run) free = free_run caller number an
 
 -- a put that failed could have been want of memory
 put_short : (rose : Who → Type 0) (told : Told) (script : Script) (out : List ℕ) (now : Told) → Goes rose told script out PutFailed now → (front : List ℕ) × Goes rose told script front OutOfMemory now
-put_short rose told Finish out now (none, same, ends) = ([], refl, same, inr refl)
-put_short rose told (Refuse refused line) out now (none, same, ends) = ([], refl, same, inr refl)
+put_short rose told Finish out now (none, same, ends) = ([], (refl, same, inr refl))
+put_short rose told (Refuse refused line) out now (none, same, ends) = ([], (refl, same, inr refl))
 put_short rose told (Say text rest) out now (inl (none, same, ends)) = ([], inl (refl, same, refl))
 put_short rose told (Say text rest) out now (inr (inl (k, put, same, rise, ends))) = ([], inl (refl, same, refl))
 put_short rose told (Say text rest) out now (inr (inr (more, put, later))) = let r = put_short rose told rest more now later in (text ++ r.0, inr (inr (r.0, refl, r.1)))
 put_short rose told (Ask question next) out now (inl (none, same, ends)) = ([], inl (refl, same, refl))
 put_short rose told (Ask question next) out now (inr (inl (none, left, fails))) = let e : PutFailed ≡ fault fails.who = fails.ends in cc
-put_short rose told (Ask question next) out now (inr (inr (reply, gives, later))) = let r = put_short rose _ (next reply) out now later in (r.0, inr (inr (reply, gives, r.1)))
+put_short rose told (Ask question next) out now (inr (inr (reply, gives, later))) = let r = put_short rose (questions.after told question reply) (next reply) out now later in (r.0, inr (inr (reply, gives, r.1)))
 
 module _ (old new : WorldModel) (script : (List ℕ → Script) → Script) (next : List ℕ → Course) (only : OnlyDesk old.told new.told) where
   -- it has a body
@@ -114,6 +114,14 @@ module _ (old new : WorldModel) (script : (List ℕ → Script) → Script) (nex
     comes = inr (inr (body, new.told, (l.front ++ [], l.on old.counts last.counts [] (Refused status.Done body) new.told (refl, refl, inl refl)), later_on old new last (next body) end l.later c));
     only = only_both old.told new.told last.told only c.only;
     later = not_fallen old.counts new.counts last.counts l.later c.later;
+  }
+
+  -- it has one, but memory ran out
+  pub said_short : Leads old new (script (λ said. Finish)) Finish → (end : End) → end ≡ NoMemory → Came old new (Answer script next) end
+  said_short l end is = record {
+    comes = inl ((l.front ++ [], l.on old.counts new.counts [] OutOfMemory new.told (refl, refl, inr refl)), is);
+    only = only;
+    later = l.later;
   }
 
   -- it stopped

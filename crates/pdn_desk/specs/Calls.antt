@@ -1,5 +1,5 @@
 -- A call of the desk's keeper, among the objects outside.
-use Rattle.std.specs.Prelude.{List, Result}
+use Rattle.std.specs.Prelude.{ℕ, ◌-◌, ◌^◌, nat_lt, Bool, List, length}
 use Rattle.pdn_base.specs.declared.status.Who.TheVariants.{Desk}
 use Rattle.pdn_http.specs.declared.call.Call.{Call}
 use Rattle.pdn_desk_keeper.specs.Desks.{KeptText, Step, IsAnswer, Stands, kept_call, with_call}
@@ -13,6 +13,10 @@ pub record Called (old new : WorldModel) (step : Step) (failed : Type 0) : Type 
   pub only : OnlyDesk old.told new.told
   pub beside : Beside old new
   pub cause : failed → RoseIn old.counts new.counts Desk
+
+-- the length of a list is a number of 32 bits
+abbrev pub is_short : List ℕ → Bool
+is_short bytes = nat_lt (length bytes) (2 ^ 32 - 1)
 
 -- this is kept for the call
 abbrev pub with_kept : Told → Call → KeptText → Told

@@ -1,5 +1,5 @@
 -- What one connection of the desk comes to.
-use Rattle.std.specs.Prelude.{◌≡◌, ◌⊎◌, ◌≤◌, ℕ, List, length, Option, Some, Result, Ok, Err}
+use Rattle.std.specs.Prelude.{◌≡◌, ◌⊎◌, ℕ, List, Option, Some, Result, Ok, Err}
 use Rattle.std.specs.Io.KnownBytes.{Appends}
 use Rattle.pdn_base.specs.Outside.{Rose, AppendsFront}
 use Rattle.pdn_base.specs.declared.memory.Memory.{Memory}
@@ -65,11 +65,6 @@ Serves s link now old new (Err short) = Responds s link old new NoMemory × (now
 abbrev pub course_for : SchemaModel → Request → Course
 course_for s (request.Get call) = Find call getting
 course_for s (request.Post call text) = Find call (posting s call text.items)
-
--- the text of a call is short
-abbrev pub IsBounded : Request → Type 0
-IsBounded (request.Get call) = Unit {0}
-IsBounded (request.Post call text) = length text.items ≤ 4096
 
 -- the reply to what a connection brings, or why there is none yet
 abbrev pub Brings : SchemaModel → LinkModel → LinkModel → WorldModel → WorldModel → Result ReplyBytes NoReply → Type 0

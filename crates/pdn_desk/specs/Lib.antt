@@ -5,3 +5,5 @@ pub mod Calls
 pub mod Ways
 pub mod Connections
 pub mod Starting
+pub mod Lines
+pub mod Laws

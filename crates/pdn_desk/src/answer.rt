@@ -1,7 +1,9 @@
 //! A text is answered: the query that it says, and the body of its answer.
-ghost use Rattle.std.specs.Prelude.{◌≡◌, ◌≤◌, ◌∷◌, [], List, ℕ, length, IfOk, MatchResult};
+ghost use Rattle.std.specs.Prelude.{◌≡◌, ◌∷◌, [], List, ℕ, length, IfOk, MatchResult};
+ghost use Rattle.pdn_base.specs.Bounds.{IsShort};
 ghost use Rattle.pdn_plan.specs.Answer.{IsWritten};
 ghost use Rattle.pdn_sql.specs.Reading.{Says};
+ghost use Rattle.pdn_reply.specs.Bodies.{answer_text};
 ghost use Rattle.pdn_query.specs.DeskCalls.{AsksTickets};
 ghost use Rattle.pdn_query.specs.Questions.{OnlyDesk};
 ghost use Rattle.pdn_desk.specs.Courses.{Course, Answer, Read};
@@ -9,11 +11,11 @@ ghost use Rattle.pdn_desk.specs.Requests.{answer_script};
 ghost use Rattle.pdn_desk.specs.Ways.{CameBy, IsUnsaid};
 
 use crate::outside::DeskOutside;
-use pdn_base::Status;
+use pdn_base::{Memory, Status};
 use pdn_broker::Watch;
 use pdn_dealer::Deal;
 use pdn_plan::texts_are_written;
-use pdn_query::{Crew, answered_query};
+use pdn_query::{AnsweredQuery, Crew, answered_query};
 use pdn_reply::answer_body;
 use pdn_schema::Schema;
 use pdn_script::{Stop, refused};
@@ -29,7 +31,7 @@ pub(crate) fn answered_text<R: Threads + Sync, W: DeskOutside, D: Deal + Watch>(
     world: &mut W,
     crew: &Crew<'_, R, D>,
 ) -> Result<Vec<u8>, Stop>
-    requires { length text.now ≤ 4096 }
+    requires { IsShort text.now }
     ensures came { (next : List ℕ → Course) →
         CameBy (W.state world.old) (W.state world.new)
         (Read text.now (λ query. Answer (answer_script schema.now query) next))
@@ -42,7 +44,7 @@ pub(crate) fn answered_text<R: Threads + Sync, W: DeskOutside, D: Deal + Watch>(
 
 /// The query that a text says, or the refusal.
 fn query_of(alloc: Global, text: &[u8]) -> Result<Query, Stop>
-    requires { length text.now ≤ 4096 }
+    requires { IsShort text.now }
     ensures said { MatchResult result (λ query. Says 1 text.now (query ∷ [])) (IsUnsaid text.now) }
     ensures written { IfOk result (λ query. IsWritten query) }
 {
@@ -82,6 +84,13 @@ fn answered<R: Threads + Sync, W: DeskOutside, D: Deal + Watch>(
     ensures asked { AsksTickets (W.state world.old).told.desk (W.state world.new).told.desk }
 {
     let answer = answered_query(alloc, schema, query, world, crew)?;
-    let columns = &answer.plan.columns;
-    Ok(answer_body(alloc, columns, &answer.answered.rows, answer.ticket)?)
+    Ok(body_of(alloc, &answer)?)
+}
+
+/// The body that gives an answer.
+fn body_of(alloc: Global, answer: &AnsweredQuery) -> Result<Vec<u8>, Memory>
+    ensures { IfOk result (λ body. body.items
+        ≡ answer_text answer.now.plan.columns answer.now.answered.rows answer.now.ticket) }
+{
+    answer_body(alloc, &answer.plan.columns, &answer.answered.rows, answer.ticket)
 }

@@ -1,8 +1,10 @@
 //! What a request asks for: what is kept of a call, or a call that is made.
-ghost use Rattle.std.specs.Prelude.{◌≡◌, ◌≤◌, None, length, IfOk, IfSome};
+ghost use Rattle.std.specs.Prelude.{◌≡◌, None, IfOk, IfSome};
+ghost use Rattle.pdn_base.specs.Bounds.{IsShort};
 ghost use Rattle.std.specs.List.{slice_get};
 ghost use Rattle.pdn_desk_keeper.specs.Desks.{IsShortText, kept_text, KeptText};
 ghost use Rattle.pdn_query.specs.World.{WorldModel};
+ghost use Rattle.pdn_desk.specs.Calls.{is_short};
 ghost use Rattle.pdn_desk.specs.Courses.{Find, Keep};
 ghost use Rattle.pdn_desk.specs.Requests.{calling, calls_of, answering_text, getting, posting, repeating};
 ghost use Rattle.pdn_desk.specs.Ways.{Came, end_of};
@@ -51,7 +53,7 @@ pub(crate) fn post<R: Threads + Sync, W: DeskOutside, D: Deal + Watch>(
     world: &mut W,
     crew: &Crew<'_, R, D>,
 ) -> Result<Reply, Memory>
-    requires { length asked.text.now ≤ 4096 }
+    requires { IsShort asked.text.now }
     ensures { Came (W.state world.old) (W.state world.new)
         (Find asked.entry.call (posting schema.now asked.entry.call asked.entry.text.now))
         (end_of result) }
@@ -81,7 +83,7 @@ fn call<R: Threads + Sync, W: DeskOutside, D: Deal + Watch>(
     world: &mut W,
     crew: &Crew<'_, R, D>,
 ) -> Result<Reply, Memory>
-    requires short { length asked.text.now ≤ 4096 }
+    requires short { IsShort asked.text.now }
     requires free { IfSome (W.state world.now).told.desk
         (λ held. kept_text asked.call.caller asked.call.number held.calls ≡ None) }
     ensures { Came (W.state world.old) (W.state world.new)
@@ -116,7 +118,7 @@ fn answer<R: Threads + Sync, W: DeskOutside, D: Deal + Watch>(
     world: &mut W,
     crew: &Crew<'_, R, D>,
 ) -> Result<Reply, Memory>
-    requires short { length asked.text.now ≤ 4096 }
+    requires short { IsShort asked.text.now }
     requires free { IfSome (W.state world.now).told.desk
         (λ held. kept_text asked.call.caller asked.call.number held.calls ≡ None) }
     ensures { Came (W.state world.old) (W.state world.new)
@@ -135,7 +137,7 @@ fn keep<W: DeskOutside>(
     body: Vec<u8>,
     world: &mut W,
 ) -> Result<Reply, Memory>
-    requires short { length asked.text.now ≤ 4096 }
+    requires short { IsShort asked.text.now }
     requires free { IfSome (W.state world.now).told.desk
         (λ held. kept_text asked.call.caller asked.call.number held.calls ≡ None) }
     ensures { Came (W.state world.old) (W.state world.new)
@@ -152,13 +154,20 @@ fn keep<W: DeskOutside>(
     }
 }
 
-/// What is kept of a call. A body whose length is no number of 32 bits wants more memory than there is.
+/// Whether the length of a list is a number of 32 bits.
+pub(crate) fn is_short(bytes: &[u8]) -> bool
+    ensures { result ≡ is_short bytes.now }
+{
+    bytes.len() < u32::MAX as usize
+}
+
+/// What is kept of a call. A body whose length is no number of 32 bits counts as want of memory.
 fn kept_of(alloc: Global, text: &[u8], body: Vec<u8>) -> Result<Kept, Memory>
-    requires { length text.now ≤ 4096 }
+    requires { IsShort text.now }
     ensures is { IfOk result (λ kept. kept ≡ record { text = text.now; body = body.items }) }
     ensures size { IfOk result (λ kept. IsShortText kept) }
 {
-    if body.len() >= u32::MAX as usize {
+    if !is_short(&body) {
         return Err(Memory);
     }
     Ok(Kept {

@@ -1,11 +1,11 @@
 //! One connection is served.
 ghost use Rattle.std.specs.Prelude.{◌≡◌, ◌≤◌};
-ghost use Rattle.pdn_desk.specs.Connections.{Serves, Brings, Sends, IsBounded, course_for, link_model};
+ghost use Rattle.pdn_desk.specs.Connections.{Serves, Brings, Sends, course_for, link_model};
 ghost use Rattle.pdn_desk.specs.Ways.{Came, end_of};
 ghost use Rattle.pdn_desk.specs.declared.serve.NoReply.TheVariants.{Memory as NoMemoryYet};
 
 use crate::DeskEnd;
-use crate::call::{Asked, get, post};
+use crate::call::{Asked, get, is_short, post};
 use crate::outside::DeskOutside;
 use crate::reply::{Reply, memory_failure, refuse};
 use pdn_base::Memory;
@@ -92,13 +92,16 @@ fn respond<R: Threads + Sync, W: DeskOutside, D: Deal + Watch>(
     world: &mut W,
     crew: &Crew<'_, R, D>,
 ) -> Result<Reply, Memory>
-    requires { IsBounded request.now }
     ensures { Came (W.state world.old) (W.state world.new)
         (course_for schema.now request.now) (end_of result) }
 {
     match request {
         Request::Get(call) => get(alloc, *call, world),
         Request::Post(call, text) => {
+            // A length that is no number of 32 bits counts as want of memory; a text has at most 4096 bytes.
+            if !is_short(text) {
+                return Err(Memory);
+            }
             let asked = Asked { call: *call, text };
             post(alloc, schema, asked, world, crew)
         }
