@@ -1,5 +1,5 @@
 -- What a command asks of the desk's keeper.
-use Rattle.std.proofs.Common.{◌≡◌, ℕ, List, [], ◌∷◌, Option, None, Some, Ok, Err, inl, inr, ◌⊎◌, refl, ap, subst, ◌∙◌}
+use Rattle.std.proofs.Common.{◌≡◌, ℕ, List, [], ◌∷◌, Option, None, Some, Ok, Err, inl, inr, refl, ap, subst, ◌∙◌}
 use Rattle.std.specs.Prelude.{IfSome, ⊤}
 use Rattle.pdn_base.specs.declared.site.Site.{Site}
 use Rattle.pdn_base.specs.declared.site.Site.TheVariants.{A, B}
@@ -8,7 +8,7 @@ use Rattle.pdn_base.specs.declared.status.Who.{Who}
 use Rattle.pdn_keeper.specs.Batches.{BatchHeld}
 use Rattle.pdn_keeper.specs.declared.site_keeper.KeepErr.TheVariants.{Failed}
 use Rattle.pdn_desk_keeper.specs.Desks.{DeskHeld}
-use Rattle.pdn_query.specs.Questions.{Question, File, Kept, Batch, Ticket, SchemaIn, QueriesIn, Bound, RowsIn, Valid, Reply, Told, Answer, New, Again, Differs, OverRows, OverPer, Gives, after, after_batch, AfterFault, with_new}
+use Rattle.pdn_query.specs.Questions.{Question, File, Kept, Batch, Ticket, SchemaIn, QueriesIn, Bound, RowsIn, Valid, Agreeing, Reply, Told, Answer, New, Again, Differs, OverRows, OverPer, Gives, after, after_batch, AfterFault, with_new}
 use Rattle.pdn_query.specs.Script.{Script, Finish, Refuse, Say, Ask}
 use Rattle.pdn_query.specs.DeskCalls.{AsksTickets}
 use Rattle.pdn_query.specs.Walk.{Goes, End, Follows}
@@ -45,6 +45,7 @@ fault_asked told now (QueriesIn bytes) e = none_asked told.desk now.desk (ap (λ
 fault_asked told now (Bound s query) e = none_asked told.desk now.desk (ap (λ (t : Told). t.desk) e)
 fault_asked told now (RowsIn t bytes) e = none_asked told.desk now.desk (ap (λ (t : Told). t.desk) e)
 fault_asked told now (Valid t rows) e = none_asked told.desk now.desk (ap (λ (t : Told). t.desk) e)
+fault_asked told now (Agreeing s first second) e = none_asked told.desk now.desk (ap (λ (t : Told). t.desk) e)
 
 -- it gave a reply
 reply_asked : (told : Told) (now : Option DeskHeld) (question : Question) (reply : Reply question) → Gives told question reply → AsksTickets (after told question reply).desk now → AsksTickets told.desk now
@@ -57,6 +58,7 @@ reply_asked told now (QueriesIn bytes) reply gives later = later
 reply_asked told now (Bound s query) reply gives later = later
 reply_asked told now (RowsIn t bytes) reply gives later = later
 reply_asked told now (Valid t rows) reply gives later = later
+reply_asked told now (Agreeing s first second) reply gives later = later
 
 goes_asked : (rose : Who → Type 0) (told : Told) (script : Script) (out : List ℕ) (end : End) (now : Told) → Goes rose told script out end now → AsksTickets told.desk now.desk
 goes_asked rose told Finish out end now (none, same, ends) = none_asked told.desk now.desk (ap (λ (t : Told). t.desk) same)

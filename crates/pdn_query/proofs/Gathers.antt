@@ -7,20 +7,22 @@ use Rattle.pdn_base.specs.declared.site.Site.{Site}
 use Rattle.pdn_base.specs.declared.site.Site.TheVariants.{A, B}
 use Rattle.pdn_base.specs.declared.status.Status.TheVariants as status
 use Rattle.pdn_schema.specs.Models.{SchemaModel, TableModel, no_table}
-use Rattle.pdn_schema.specs.Rows.{IsValid, AreValid}
+use Rattle.pdn_schema.specs.Rows.{IsValid, AreValid, union}
+use Rattle.pdn_sql.specs.declared.query.Query.{Query}
+use Rattle.pdn_plan.specs.Answer.{answer}
 use Rattle.pdn_tree.specs.declared.node.Node.{Node}
-use Rattle.pdn_tree.specs.declared.plan.OutColumn.{OutColumn}
+use Rattle.pdn_tree.specs.Plans.{PlanModel}
 use Rattle.pdn_site.specs.Models.{UnitModel}
 use Rattle.pdn_site.specs.Compiling.{Compiled}
-use Rattle.pdn_view.specs.declared.view.Party.{Party}
-use Rattle.pdn_broker.specs.Prepared.{PreparedModel}
+use Rattle.pdn_broker.specs.Prepared.{PreparedModel, prepared_of}
 use Rattle.pdn_broker.specs.Runs.{Tape}
 use Rattle.pdn_script.specs.Stops.{IsRefusal, stop_of}
 use Rattle.pdn_script.specs.declared.stop.Stop.{Stop}
-use Rattle.pdn_query.specs.Answering.{scans, asking_if, asking, wrong_column, or_wrong, judging, units_over, or_large, judging_both, ticketing, answer_text, shown_text, AllValid}
+use Rattle.pdn_query.specs.Answering.{scans, asking_if, asking, wrong_column, or_wrong, judging, units_over, or_large, judging_both, ticketing, gathering, answering, querying, AllValid}
 use Rattle.pdn_query.specs.Gathering.{WrongRows, WrongTable, LargeUnit, NotReady, AreReady}
 use Rattle.pdn_query.specs.Questions.{Valid}
-use Rattle.pdn_query.specs.Script.{Script}
+use Rattle.pdn_query.specs.Script.{Script, binding}
+use Rattle.pdn_query.specs.Showing.{ThreeViews, views_on}
 use Rattle.pdn_query.specs.Walk.{End, NoMemory, Along, Leads, Came}
 use Rattle.pdn_query.specs.World.{WorldModel}
 use Rattle.pdn_query.proofs.Walks.{leads_on, leads_along, begun, halted, known, refused}
@@ -98,11 +100,11 @@ module _ (w : WorldModel) where
       leads_along (known w (Valid t rows) (or_wrong site at t (judging site (at + 1) ts tables next)) None refl (before 0 (omega arith)))
       (wrong_after site (at + 1) ts tables next k place stop (omega (arith, same)) (omega (arith, e)) (omega (arith, l)) (λ j m. before (suc j) (omega (arith, m))) r)
 
-  wrong_table : (s : SchemaModel) (site : Site) (tables : List Rows) (next : Script) (stop : Stop) → length tables ≡ length s.tables → WrongTable s site tables stop →
+  pub wrong_table : (s : SchemaModel) (site : Site) (tables : List Rows) (next : Script) (stop : Stop) → length tables ≡ length s.tables → WrongTable s site tables stop →
       Along w w (judging site 0 s.tables tables next) (stop_of stop)
   wrong_table s site tables next stop e t = let here : t.at ≡ 0 + t.at = omega arith in wrong_after site 0 s.tables tables next t.at t.at stop here e t.within t.before t.here
 
-  all_judged : (s : SchemaModel) (site : Site) (tables : List Rows) (next : Script) → AreValid s tables → Leads w w (judging site 0 s.tables tables next) next
+  pub all_judged : (s : SchemaModel) (site : Site) (tables : List Rows) (next : Script) → AreValid s tables → Leads w w (judging site 0 s.tables tables next) next
   all_judged s site tables next v = judged site 0 s.tables tables next (all_valid s.tables tables v.each)
 
   units_on : (next : List UnitModel → Script) (units : List UnitModel) (compiled : Compiled) → compiled ≡ Ok units → Leads w w (or_large next compiled) (next units)
@@ -129,16 +131,25 @@ module _ (w : WorldModel) where
     gathered next (Ok p) ea eb ready = subst (λ (q : PreparedModel). Leads w w (judging_both s root a b (next a b)) (next q.a.tables q.b.tables q.units)) (sym ready.made) (ready_on (next a b) p ready)
     gathered next (Err stop) ea eb not = unready (next a b) stop ea eb not
 
--- ---- tickets
+-- ---- a query that is answered
 
--- what is put with this ticket: the answer, and the views of what was made ready
-module _ (number : ℕ) (columns : List OutColumn) (parties : List Party) (tape : Tape) where
-  abbrev whole : PreparedModel → Rows → ℕ → List ℕ
-  whole p rows ticket = answer_text number ticket columns rows ++ shown_text parties tape p ticket
+module _ (tape : Tape) (s : SchemaModel) (query : Query) where
+  -- a ticket is taken, and these rows and views are those of the query with it
+  given : (w now : WorldModel) (next : ℕ → Rows → ThreeViews → Script) (ticket : ℕ) (made p : PreparedModel) (means rows : Rows) (views : ThreeViews) → p ≡ made → rows ≡ means → views ≡ views_on p tape ticket →
+      ((after : ℕ → Script) → Leads w now (ticketing after) (after ticket)) → Leads w now (ticketing (λ t. next t means (views_on made tape t))) (next ticket rows views)
+  given w now next ticket made p means rows views form is sees takes =
+      let whole : Script = ticketing (λ t. next t means (views_on made tape t)) in
+      subst (λ (vs : ThreeViews). Leads w now whole (next ticket rows vs)) (sym (sees ∙ ap (λ (q : PreparedModel). views_on q tape ticket) form))
+      (subst (λ (rs : Rows). Leads w now whole (next ticket rs (views_on made tape ticket))) (sym is) (takes (λ t. next t means (views_on made tape t))))
 
-  -- a ticket is taken, and the text is the whole with it
-  pub given_text : (w now : WorldModel) (next : List ℕ → Script) (ticket : ℕ) (made p : PreparedModel) (means rows : Rows) (text : List ℕ) → p ≡ made → rows ≡ means → text ≡ whole p rows ticket →
-      ((after : ℕ → Script) → Leads w now (ticketing after) (after ticket)) → Leads w now (ticketing (λ given. next (whole made means given))) (next text)
-  given_text w now next ticket made p means rows text form is printed takes =
-      subst (λ (xs : List ℕ). Leads w now (ticketing (λ given. next (whole made means given))) (next xs))
-      (sym (printed ∙ ap (λ (rs : Rows). whole p rs ticket) is ∙ ap (λ (q : PreparedModel). whole q means ticket) form)) (takes (λ given. next (whole made means given)))
+  -- bound, made ready, given a ticket and answered
+  pub queried : (old mid now : WorldModel) (plan : PlanModel) (p : PreparedModel) (ticket : ℕ) (rows : Rows) (views : ThreeViews) →
+      ((w : WorldModel) (next : PlanModel → Script) → Leads w w (binding s query next) (next plan)) →
+      ((next : List Rows → List Rows → List UnitModel → Script) → Leads old mid (gathering s plan next) (next p.a.tables p.b.tables p.units)) →
+      ((next : ℕ → Script) → Leads mid now (ticketing next) (next ticket)) →
+      p ≡ prepared_of s plan.root p.a.tables p.b.tables p.units → rows ≡ answer s (union p.a.tables p.b.tables) query → views ≡ views_on p tape ticket →
+      (next : PlanModel → ℕ → Rows → ThreeViews → Script) → Leads old now (querying tape s query next) (next plan ticket rows views)
+  queried old mid now plan p ticket rows views binds gathers takes form is sees next =
+      leads_on (binds old (λ q. answering s query q (λ t r rs. next q t rs (views_on r tape t))))
+      (leads_on (gathers (λ a b units. ticketing (λ t. next plan t (answer s (union a b) query) (views_on (prepared_of s plan.root a b units) tape t))))
+      (given mid now (next plan) ticket (prepared_of s plan.root p.a.tables p.b.tables p.units) p (answer s (union p.a.tables p.b.tables) query) rows views form is sees takes))

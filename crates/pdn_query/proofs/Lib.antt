@@ -1,7 +1,9 @@
 pub mod Walks
 pub mod Worlds
+pub mod Steps
 pub mod Gathers
-pub mod Ready
+mod Judges
+pub mod Readiness
 pub mod DeskCalls
 mod Shown
 mod Tapes

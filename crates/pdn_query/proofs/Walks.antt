@@ -1,5 +1,5 @@
 -- Going along a script from world to world.
-use Rattle.std.proofs.Common.{◌≡◌, ℕ, ◌++◌, List, [], refl, subst, Some, Result, Ok, Err, inl, inr, ◌∙◌, arith, take, append_assoc}
+use Rattle.std.proofs.Common.{◌≡◌, ℕ, ◌++◌, List, [], refl, sym, subst, Some, Result, Ok, Err, inl, inr, ◌∙◌, arith, take, append_assoc}
 use Rattle.std.specs.Io.KnownBytes.{Appends}
 use Rattle.pdn_base.specs.Texts.{refusal}
 use Rattle.pdn_base.specs.declared.status.Status.{Status}
@@ -61,6 +61,10 @@ module _ {T : Type 0} {a b : WorldModel} {whole : Script} where
   pub came_on : {mid : Script} (c : WorldModel) (rest : T → Script) (result : Result T Stop) → Leads a b whole mid → Came b c mid rest result → Came a c whole rest result
   came_on c rest (Ok value) l came = leads_on l came
   came_on c rest (Err stop) l came = leads_along l came
+
+  -- what follows of a value is what follows of its equal
+  pub leads_same : (next : T → Script) (value means : T) → value ≡ means → Leads a b whole (next means) → Leads a b whole (next value)
+  leads_same next value means e l = subst (λ (v : T). Leads a b whole (next v)) (sym e) l
 
   -- the last text of a script is put
   pub came_end : (text : List ℕ) (result : Result T Stop) → Came a b (Say text Finish) (λ _. Finish) result → whole ≡ Say text Finish → Along a b whole (end_of result)

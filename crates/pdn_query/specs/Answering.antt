@@ -27,9 +27,9 @@ use Rattle.pdn_view.specs.declared.view.Party.{Party}
 use Rattle.pdn_view.specs.Lines.{view_text}
 use Rattle.pdn_broker.specs.Runs.{Tape}
 use Rattle.pdn_broker.specs.Prepared.{PreparedModel, prepared_of}
-use Rattle.pdn_broker.specs.Views.{view_for}
 use Rattle.pdn_keeper.specs.Batches.{BatchHeld}
 use Rattle.pdn_query.specs.Questions.{Kept, Valid, Ticket, Keeps, IsBound}
+use Rattle.pdn_query.specs.Showing.{ThreeViews, views_on, view_in}
 use Rattle.pdn_query.specs.Script.{Script, Refuse, Say, Ask, refuse, binding, column_name}
 
 -- ---- the rows that are asked for
@@ -129,9 +129,9 @@ names_line columns = line (by_commas (map (λ (c : OutColumn). c.name) columns))
 abbrev pub answer_text : ℕ → ℕ → List OutColumn → Rows → List ℕ
 answer_text query ticket columns rows = head_line query ticket (length rows) ++ names_line columns ++ flat_map row_line rows
 
--- the views that these parties have of a query, one after the other
-abbrev pub shown_text : List Party → Tape → PreparedModel → ℕ → List ℕ
-shown_text parties tape p ticket = flat_map (λ party. view_text (view_for party p tape ticket)) parties
+-- the text of these parties' views, one after the other
+abbrev pub shown_text : List Party → ThreeViews → List ℕ
+shown_text parties views = flat_map (λ party. view_text (view_in party views)) parties
 
 -- ---- what is asked and said
 
@@ -147,9 +147,13 @@ gathering s plan next = asking A plan.root 0 s.tables (λ a. asking B plan.root 
 abbrev pub answering : SchemaModel → Query → PlanModel → (ℕ → PreparedModel → Rows → Script) → Script
 answering s query plan next = gathering s plan (λ a b units. ticketing (λ ticket. next ticket (prepared_of s plan.root a b units) (answer s (union a b) query)))
 
--- a query is bound first; what follows is the text of its answer, with the views that these parties have of it on this tape
+-- a query is bound first; what follows are its plan, its ticket, its rows, and what the parties see of it on this tape
+abbrev pub querying : Tape → SchemaModel → Query → (PlanModel → ℕ → Rows → ThreeViews → Script) → Script
+querying tape s query next = binding s query (λ plan. answering s query plan (λ ticket p rows. next plan ticket rows (views_on p tape ticket)))
+
+-- what follows is the text of its answer, with the views that these parties have of it on this tape
 abbrev pub query_answer : Tape → List Party → SchemaModel → ℕ → Query → (List ℕ → Script) → Script
-query_answer tape parties s number query next = binding s query (λ plan. answering s query plan (λ ticket p rows. next (answer_text number ticket plan.columns rows ++ shown_text parties tape p ticket)))
+query_answer tape parties s number query next = querying tape s query (λ plan ticket rows views. next (answer_text number ticket plan.columns rows ++ shown_text parties views))
 
 abbrev pub query_script : Tape → List Party → SchemaModel → ℕ → Query → Script → Script
 query_script tape parties s number query next = query_answer tape parties s number query (λ text. Say text next)
@@ -191,7 +195,7 @@ pub record IsTaken (kept_a kept_b : Option (List BatchHeld)) (s : SchemaModel) (
 pub record IsAnswer (tape : Tape) (parties : List Party) (kept_a kept_b : Option (List BatchHeld)) (s : SchemaModel) (number ticket : ℕ) (query : Query) (text : List ℕ) : Type 0 where
   pub taken : IsTaken kept_a kept_b s query
   pub printed : text ≡ answer_text number ticket taken.plan.columns (answer s (union taken.a taken.b) query)
-      ++ shown_text parties tape (prepared_of s taken.plan.root taken.a taken.b taken.units) ticket
+      ++ shown_text parties (views_on (prepared_of s taken.plan.root taken.a taken.b taken.units) tape ticket)
 
 -- Without views an answer is the same on every tape.
 abbrev pub SameOnTapes : Type 0

@@ -1,7 +1,7 @@
 -- What a command asks of the desk's keeper.
 use Rattle.std.specs.Prelude.{ℕ, List, map, Option, Result}
 use Rattle.pdn_keeper.specs.declared.site_keeper.KeepErr.{KeepErr}
-use Rattle.pdn_desk_keeper.specs.Desks.{DeskHeld, Step, Ticket}
+use Rattle.pdn_desk_keeper.specs.Desks.{DeskHeld, Ticket}
 use Rattle.pdn_desk_keeper.specs.Runs.{IsRun}
 
 -- Tickets alone were asked for, and these were the answers. That the tickets of such runs rise is a law of the keeper.

@@ -9,6 +9,9 @@ use Rattle.pdn_schema.specs.Models.{SchemaModel, TableModel, table_of}
 use Rattle.pdn_schema.specs.Rows.{IsValid, IsRefused, AreValid}
 use Rattle.pdn_tree.specs.declared.node.Node.{Node}
 use Rattle.pdn_site.specs.Models.{UnitModel}
+use Rattle.pdn_broker.specs.declared.answered.Answered.{Answered}
+use Rattle.pdn_broker.specs.Runs.{Tape}
+use Rattle.pdn_broker.specs.Answered.{IsAnswered}
 use Rattle.pdn_broker.specs.Prepared.{PreparedModel, prepared_of}
 use Rattle.pdn_script.specs.declared.stop.Stop.{Stop}
 use Rattle.pdn_script.specs.Stops.{stop_of, IsRefusal}
@@ -52,3 +55,9 @@ pub record AreReady (s : SchemaModel) (root : Node) (a b : List Rows) (p : Prepa
   pub units : List UnitModel
   pub fits : units_over s root a b ≡ Ok units
   pub made : p ≡ prepared_of s root a b units
+
+-- This is the answer, on this tape and with this ticket, of a query that is ready.
+pub record IsAnsweredOn (tape : Tape) (s : SchemaModel) (root : Node) (ticket : ℕ) (answered : Answered) : Type 0 where
+  pub p : PreparedModel
+  pub ready : IsReady s root p
+  pub is : IsAnswered p tape ticket answered

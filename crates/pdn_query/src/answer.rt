@@ -1,5 +1,5 @@
 //! The answer to a query: both sites' rows are asked for, judged, and answered over their union.
-ghost use Rattle.std.specs.Prelude.{◌≡◌, ◌<◌, ◌-◌, ◌^◌, ◌++◌, ℕ, List, None, length, true, IfOk, MatchResult};
+ghost use Rattle.std.specs.Prelude.{◌≡◌, ◌<◌, ◌-◌, ◌^◌, ◌++◌, ℕ, List, None, Ok, length, true, IfOk, MatchResult};
 ghost use Rattle.std.specs.List.{All};
 ghost use Rattle.std.specs.String.{string_bytes};
 ghost use Rattle.pdn_base.specs.Operators.{Rows as RowsModel};
@@ -8,14 +8,22 @@ ghost use Rattle.pdn_schema.specs.Rows.{AreValid, union};
 ghost use Rattle.pdn_plan.specs.Answer.{IsWritten, answer};
 ghost use Rattle.pdn_plan.specs.Binding.{refusal};
 ghost use Rattle.pdn_plan.specs.Planning.{root};
+ghost use Rattle.pdn_tree.specs.Plans.{PlanModel};
 ghost use Rattle.pdn_tree.specs.Shapes.{shape};
 ghost use Rattle.pdn_site.specs.Models.{UnitModel};
-ghost use Rattle.pdn_broker.specs.Prepared.{IsPrepared, PreparedForm};
 ghost use Rattle.pdn_broker.specs.Answered.{IsAnswered};
-ghost use Rattle.pdn_query.specs.Answering.{answer_text, gathering, query_answer, wrong_column};
-ghost use Rattle.pdn_query.specs.Showing.{parties_of, views_of, views_text};
-ghost use Rattle.pdn_query.specs.Gathering.{NotReady, AreReady, IsReady};
-ghost use Rattle.pdn_query.specs.Questions.{OnlyDesk};
+ghost use Rattle.pdn_broker.specs.Prepared.{IsPrepared, PreparedForm};
+ghost use Rattle.pdn_query.specs.Answering.{
+  answer_text,
+  gathering,
+  query_answer,
+  querying,
+  shown_text,
+  wrong_column,
+};
+ghost use Rattle.pdn_query.specs.Showing.{ThreeViews, parties_of, views_of, views_on};
+ghost use Rattle.pdn_query.specs.Gathering.{NotReady, AreReady, IsAnsweredOn, IsReady};
+ghost use Rattle.pdn_query.specs.Questions.{IsBound, OnlyDesk};
 ghost use Rattle.pdn_query.specs.Script.{Script};
 ghost use Rattle.pdn_query.specs.Walk.{Came};
 ghost use Rattle.pdn_script.specs.Stops.{IsRefusal};
@@ -47,6 +55,14 @@ pub struct Numbered<'a> {
     pub show: Option<Show>,
 }
 
+/// A query that is answered: its plan, its ticket, and its answer with what each party sees of it.
+#[derive(Drop)]
+pub struct AnsweredQuery {
+    pub plan: Plan,
+    pub ticket: u64,
+    pub answered: Answered,
+}
+
 /// The text of the answer to a query, over the rows of both sites, and then the views that are asked for: what those parties see of
 /// the query on the dealer's tape. Its ticket is taken of the desk when nothing is left to be refused.
 pub fn query_answer<R: Threads + Sync, W: Outside, D: Deal + Watch>(
@@ -64,28 +80,52 @@ pub fn query_answer<R: Threads + Sync, W: Outside, D: Deal + Watch>(
         (λ text. next text.items) result }
     ensures only { OnlyDesk (W.state world.old).told (W.state world.new).told }
 {
-    let plan = bound(alloc, schema, asked.query)?;
-    let prepared = gathered(alloc, schema, &plan, world)?;
-    let ticket = next_ticket(alloc, world)?;
-    let answered = answer_prepared(alloc, schema, asked.query, ticket, prepared, crew)?;
-    Ok(whole_text(alloc, asked, ticket, &plan, &answered)?)
+    let answered = answered_query(alloc, schema, asked.query, world, crew)?;
+    Ok(whole_text(alloc, asked, &answered)?)
 }
 
 // The answer's text, and then the views that are asked for.
-fn whole_text(
-    alloc: Global,
-    asked: Numbered<'_>,
-    ticket: u64,
-    plan: &Plan,
-    answered: &Answered,
-) -> Result<Vec<u8>, Memory>
+fn whole_text(alloc: Global, asked: Numbered<'_>, query: &AnsweredQuery) -> Result<Vec<u8>, Memory>
     ensures { IfOk result (λ text. text.items
-        ≡ answer_text asked.entry.number ticket plan.now.columns answered.now.rows
-        ++ views_text (views_of answered.now asked.entry.show)) }
+        ≡ answer_text asked.entry.number query.now.ticket query.now.plan.columns
+        query.now.answered.rows
+        ++ shown_text (parties_of asked.entry.show) (views_of query.now.answered)) }
 {
-    let mut text = answer_text(alloc, asked.number, ticket, plan, &answered.rows)?;
-    put_views(alloc, &mut text, answered, asked.show)?;
+    let rows = &query.answered.rows;
+    let mut text = answer_text(alloc, asked.number, query.ticket, &query.plan, rows)?;
+    put_views(alloc, &mut text, &query.answered, asked.show)?;
     Ok(text)
+}
+
+/// A query that is answered over the rows of both sites: its plan, its ticket, and its answer with what each party sees of it on the
+/// dealer's tape. Its ticket is taken of the desk when nothing is left to be refused.
+pub fn answered_query<R: Threads + Sync, W: Outside, D: Deal + Watch>(
+    alloc: Global,
+    schema: &Schema,
+    query: &Query,
+    world: &mut W,
+    crew: &Crew<'_, R, D>,
+) -> Result<AnsweredQuery, Stop>
+    requires written { IsWritten query.now }
+    ensures came { (next : PlanModel → ℕ → RowsModel → ThreeViews → Script) →
+        Came (W.state world.old) (W.state world.new)
+        (querying (D.tape crew.now.deal.now) schema.now query.now next)
+        (λ q. next q.plan q.ticket q.answered.rows (views_of q.answered)) result }
+    ensures binds { IfOk result (λ q. IsBound schema.now query.now (Ok q.plan)) }
+    ensures there { IfOk result (λ q. q.ticket < 2 ^ 40) }
+    ensures is { IfOk result (λ q. IsAnsweredOn (D.tape crew.now.deal.now)
+        schema.now q.plan.root q.ticket q.answered) }
+    ensures only { OnlyDesk (W.state world.old).told (W.state world.new).told }
+{
+    let plan = bound(alloc, schema, query)?;
+    let prepared = gathered(alloc, schema, &plan, world)?;
+    let ticket = next_ticket(alloc, world)?;
+    let answered = answer_prepared(alloc, schema, query, ticket, prepared, crew)?;
+    Ok(AnsweredQuery {
+        plan,
+        ticket,
+        answered,
+    })
 }
 
 // The query made ready over the rows that both sites keep of the tables that it scans, or the refusal.
@@ -107,8 +147,9 @@ fn gathered<W: Outside>(
     ready(alloc, schema, plan, a, b)
 }
 
-// The answer of a query that is made ready, and what each party sees of it.
-fn answer_prepared<R: Threads + Sync, D: Deal + Watch>(
+/// The answer of a query that is made ready over valid tables, on the sections of this ticket, and what each party sees of it. Memory is
+/// the only error.
+pub fn answer_prepared<R: Threads + Sync, D: Deal + Watch>(
     alloc: Global,
     schema: &Schema,
     query: &Query,
@@ -125,6 +166,8 @@ fn answer_prepared<R: Threads + Sync, D: Deal + Watch>(
     ensures rows { IfOk result (λ answered. answered.rows
         ≡ answer schema.now (union prepared.a.tables prepared.b.tables) query.now) }
     ensures is { IfOk result (IsAnswered prepared (D.tape crew.now.deal.now) ticket) }
+    ensures views { IfOk result (λ answered. views_of answered
+        ≡ views_on prepared (D.tape crew.now.deal.now) ticket) }
 {
     valid_unions_fit(schema);
     plan_means_answer(schema, query);
@@ -180,7 +223,13 @@ fn is_prepared(prepared: &Prepared)
 }
 
 // The refusal of a site's rows of a table.
-pub(crate) fn wrong_rows(alloc: Global, schema: &Schema, site: Site, table: u32, wrong: RowsErr) -> Stop
+pub(crate) fn wrong_rows(
+    alloc: Global,
+    schema: &Schema,
+    site: Site,
+    table: u32,
+    wrong: RowsErr,
+) -> Stop
     requires { table < length schema.now.tables }
     ensures { let t = table_of schema.now table in
         IsRefusal t.name (wrong_column t wrong) (Status.BadRows site table wrong) result }

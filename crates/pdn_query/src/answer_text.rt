@@ -70,7 +70,8 @@ fn put_name(out: &mut Vec<u8>, column: &OutColumn) -> Result<(), Memory>
     Ok(())
 }
 
-fn put_rows(alloc: Global, out: &mut Vec<u8>, rows: &[Row]) -> Result<(), Memory>
+/// Adds a line for each of the rows.
+pub fn put_rows(alloc: Global, out: &mut Vec<u8>, rows: &[Row]) -> Result<(), Memory>
     ensures { OnOk result (out.new.items ≡ out.old.items ++ flat_map row_line rows.now) }
 {
     for row in rows {

@@ -55,12 +55,7 @@ fn first_wrong(schema: &Schema, tables: &Tables) -> Option<(u32, RowsErr)>
 
 /// That two lists of tables have the same set of values in every public column, or the refusal of the first column where they
 /// haven't.
-pub fn compared(
-    alloc: Global,
-    schema: &Schema,
-    first: &Tables,
-    second: &Tables,
-) -> Result<(), Stop>
+pub fn compared(alloc: Global, schema: &Schema, first: &Tables, second: &Tables) -> Result<(), Stop>
     requires first { length first.now ≡ length schema.now.tables }
     requires second { length second.now ≡ length schema.now.tables }
     ensures came { (w : WorldModel) (next : Script) →

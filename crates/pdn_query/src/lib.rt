@@ -16,8 +16,8 @@ mod who;
 mod workers;
 mod world;
 
-pub use answer::{Numbered, query_answer, ready};
-pub use answer_text::query_name;
+pub use answer::{AnsweredQuery, Numbered, answer_prepared, answered_query, query_answer, ready};
+pub use answer_text::{put_rows, query_name};
 pub use binding::bound;
 pub use columns::column_name;
 pub use judging::{compared, judged};

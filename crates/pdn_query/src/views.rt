@@ -1,7 +1,8 @@
 //! The views that are shown after an answer.
 ghost use Rattle.std.specs.Prelude.{◌≡◌, ◌++◌, OnOk};
 ghost use Rattle.pdn_view.specs.Lines.{view_text};
-ghost use Rattle.pdn_query.specs.Showing.{views_of, views_text};
+ghost use Rattle.pdn_query.specs.Answering.{shown_text};
+ghost use Rattle.pdn_query.specs.Showing.{parties_of, views_of};
 
 use crate::show::Show;
 use pdn_base::Memory;
@@ -17,7 +18,8 @@ pub fn put_views(
     show: Option<Show>,
 ) -> Result<(), Memory>
     ensures { OnOk result
-        (out.new.items ≡ out.old.items ++ views_text (views_of answered.now show)) }
+        (out.new.items ≡ out.old.items
+        ++ shown_text (parties_of show) (views_of answered.now)) }
 {
     match show {
         None => Ok(()),

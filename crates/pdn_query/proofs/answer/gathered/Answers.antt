@@ -1,6 +1,6 @@
 use Rattle.std.proofs.lemmas.Result.{err_from_is_err_and}
 use Rattle.pdn_query.proofs.Gathers.{gathered}
-use Rattle.pdn_query.proofs.Ready.{where_ready}
+use Rattle.pdn_query.proofs.Readiness.{where_ready}
 use Rattle.pdn_query.proofs.Walks.{leads_along, came_on}
 use Rattle.pdn_query.proofs.answer.gathered.Goals as goal
 

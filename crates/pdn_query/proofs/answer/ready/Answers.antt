@@ -1,4 +1,4 @@
-use Rattle.pdn_query.proofs.Ready.{are_ready}
+use Rattle.pdn_query.proofs.Readiness.{are_ready}
 use Rattle.pdn_query.proofs.answer.ready.Goals as goal
 
 pub returns-in-Ok : goal.returns-in-Ok
