@@ -8,7 +8,7 @@ use Rattle.std.proofs.lemmas.List.Sums.{length-filter}
 use Rattle.pdn_base.specs.declared.site.Site.TheVariants.{A, B}
 use Rattle.pdn_base.specs.declared.status.Status.TheVariants as status
 use Rattle.pdn_base.specs.declared.status.Who.{Who}
-use Rattle.pdn_keeper.specs.Batches.{BatchHeld, with_batch}
+use Rattle.pdn_keeper.specs.Batches.{BatchHeld, batch_held, with_batch}
 use Rattle.pdn_schema.specs.Models.{SchemaModel}
 use Rattle.pdn_http.specs.declared.call.Call.{Call}
 use Rattle.pdn_http.specs.Requests.{Outcome, Silent, Refused, Get, Post}
@@ -26,7 +26,7 @@ use Rattle.pdn_desk.specs.Requests.{course_of, calls_of, answering_text, getting
 use Rattle.pdn_desk.specs.Ways.{End, Comes}
 use Rattle.pdn_desk.proofs.Repeating.{some_is}
 
-is_some : {X : Type 0} → Option X → Bool
+abbrev is_some : {X : Type 0} → Option X → Bool
 is_some None = false
 is_some (Some x) = true
 
@@ -108,7 +108,7 @@ module _ (caller : ℕ) {one other : Told} (s : SameFor caller one other) where
   after_same : (question : Question) (reply : Reply question) → SameFor caller (after one question reply) (after other question reply)
   after_same (File name) reply = s
   after_same (Kept site name) reply = s
-  after_same (Batch site t number rows) New = batch_same site _
+  after_same (Batch site t number rows) New = batch_same site (batch_held t.name number rows)
   after_same (Batch site t number rows) Again = s
   after_same (Batch site t number rows) (Differs at) = s
   after_same (Batch site t number rows) OverRows = s
@@ -128,7 +128,7 @@ module _ (caller : ℕ) {one other : Told} (s : SameFor caller one other) where
   fault_same (File name) now e = (other, refl, moved now e)
   fault_same (Kept site name) now e = (other, refl, moved now e)
   fault_same (Batch site t number rows) now (inl e) = (other, inl refl, moved now e)
-  fault_same (Batch site t number rows) now (inr e) = (with_new other site _, inr refl, subst (λ (n : Told). SameFor caller n (with_new other site _)) (sym e) (batch_same site _))
+  fault_same (Batch site t number rows) now (inr e) = (with_new other site (batch_held t.name number rows), inr refl, subst (λ (n : Told). SameFor caller n (with_new other site (batch_held t.name number rows))) (sym e) (batch_same site (batch_held t.name number rows)))
   fault_same Ticket now (inl e) = (other, inl refl, moved now e)
   fault_same Ticket now (inr e) = (after other Ticket 0, inr refl, subst (λ (n : Told). SameFor caller n (after other Ticket 0)) (sym e) taken_same)
   fault_same (SchemaIn bytes) now e = (other, refl, moved now e)

@@ -38,10 +38,10 @@ tickets old new (answers, run) = (map Ticket answers, run)
 -- one call, and then others
 module _ (old new : Option DeskHeld) (step : Step) (answer : IsAnswer old step) where
   then_asks : Stands old old step → AsksDesk old new → AsksDesk old new
-  then_asks stands (steps, run) = (step ∷ steps, old, answer, stands, run)
+  then_asks stands (steps, run) = (step ∷ steps, (old, answer, stands, run))
 
   asks_one : Stands old new step → AsksDesk old new
-  asks_one stands = (step ∷ [], new, answer, stands, refl)
+  asks_one stands = (step ∷ [], (new, answer, stands, refl))
 
 -- a keeper that fails to keep
 keep_failed : (told now : Told) (call : Call) (kept : KeptText) → (now ≡ told) ⊎ (now ≡ with_kept told call kept) → AsksDesk told.desk now.desk
@@ -78,5 +78,5 @@ pub serves_asks : (s : SchemaModel) (link now : LinkModel) (old new : WorldModel
 serves_asks s link now old new (Ok ends.Silent) (come, sent, same) = asks_none old.told new.told (ap (λ (w : WorldModel). w.told) same)
 serves_asks s link now old new (Ok ends.Unread) (rise, sent, same) = asks_none old.told new.told (ap (λ (w : WorldModel). w.told) same)
 serves_asks s link now old new (Ok (ends.Replied status)) (bytes, r, sent) = responds_asks s link old new r.end r.responds
-serves_asks s link now old new (Ok (ends.Lost status)) (bytes, r, sent) = responds_asks s link old new r.end r.responds
+serves_asks s link now old new (Ok (ends.Lost status)) (bytes, r, sent, rise) = responds_asks s link old new r.end r.responds
 serves_asks s link now old new (Err short) (r, sent) = responds_asks s link old new _ r

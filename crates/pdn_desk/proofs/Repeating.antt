@@ -17,7 +17,7 @@ use Rattle.pdn_desk.specs.Replies.{reply, desk_failure}
 use Rattle.pdn_desk.specs.Requests.{posting, repeating}
 use Rattle.pdn_desk.specs.Ways.{End, Makes, Comes}
 
-from_some : {X : Type 0} → X → Option X → X
+abbrev from_some : {X : Type 0} → X → Option X → X
 from_some x None = x
 from_some x (Some y) = y
 

@@ -10,7 +10,6 @@ pub fn repeats_are_kept()
 
 /// A caller's reply is one of the request, of the sites' rows, of the next ticket and of that caller's own kept calls: what is kept of
 /// other callers' calls is of no matter to it.
-#[tactic(auto, using(crate::proofs::Apart::callers_apart))]
 pub fn callers_are_apart()
     ensures { CallersApart }
 {}

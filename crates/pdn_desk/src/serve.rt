@@ -1,6 +1,7 @@
 //! One connection is served.
 ghost use Rattle.std.specs.Prelude.{◌≡◌, ◌≤◌};
 ghost use Rattle.pdn_desk.specs.Connections.{Serves, Brings, Sends, course_for, link_model};
+ghost use Rattle.pdn_desk.specs.Laws.{AsksDesk};
 ghost use Rattle.pdn_desk.specs.Ways.{Came, end_of};
 ghost use Rattle.pdn_desk.specs.declared.serve.NoReply.TheVariants.{Memory as NoMemoryYet};
 
@@ -37,7 +38,27 @@ impl From<Memory> for NoReply {
 /// Serves one connection: one request is read and answered by the first row of the desk's table that applies, and its reply sent. A
 /// 200 of an answer is kept before it is sent; nothing else is kept. Memory may run out anywhere before: nothing is then sent, and
 /// the desk's next ticket may be one more.
+#[tactic(auto, using(crate::proofs::Asking::serves_asks))]
 pub fn serve_conn<R: Threads + Sync, L: Link, W: DeskOutside, D: Deal + Watch>(
+    alloc: Global,
+    link: &mut L,
+    schema: &Schema,
+    world: &mut W,
+    crew: &Crew<'_, R, D>,
+) -> Result<DeskEnd, Memory>
+    ensures serves { Serves schema.now
+        (link_model (L.left link.old) (L.sent link.old) (L.faults link.old))
+        (link_model (L.left link.new) (L.sent link.new) (L.faults link.new))
+        (W.state world.old) (W.state world.new) result }
+    // What is asked of the desk's keeper is a run of it; that the tickets of such runs rise is `tickets_rise`.
+    ensures asked { AsksDesk (W.state world.old).told.desk (W.state world.new).told.desk }
+    ensures later { L.faults link.old ≤ L.faults link.new }
+{
+    served(alloc, link, schema, world, crew)
+}
+
+/// The same, but for what is asked.
+fn served<R: Threads + Sync, L: Link, W: DeskOutside, D: Deal + Watch>(
     alloc: Global,
     link: &mut L,
     schema: &Schema,
