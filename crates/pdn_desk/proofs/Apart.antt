@@ -81,7 +81,9 @@ module _ (caller : ℕ) {one other : Told} (s : SameFor caller one other) where
 
   taken_same : SameFor caller (after one Ticket 0) (after other Ticket 0)
   taken_same = record {
-    files = s.files; a = s.a; b = s.b;
+    files = s.files;
+    a = s.a;
+    b = s.b;
     held = record s.held { next = after_ticket s.held.next };
     held_there = record s.held_there { next = after_ticket s.held_there.next };
     told = ap with_ticket s.told;
@@ -92,7 +94,9 @@ module _ (caller : ℕ) {one other : Told} (s : SameFor caller one other) where
 
   kept_more : (call : Call) (kept : KeptText) → SameFor caller (with_kept one call kept) (with_kept other call kept)
   kept_more call kept = let c = kept_call call.caller call.number kept in record {
-    files = s.files; a = s.a; b = s.b;
+    files = s.files;
+    a = s.a;
+    b = s.b;
     held = record s.held { calls = s.held.calls ++ c ∷ [] };
     held_there = record s.held_there { calls = s.held_there.calls ++ c ∷ [] };
     told = ap (with_call c) s.told;

@@ -41,7 +41,7 @@ module _ (rose : Who → Type 0) where
   repeated s call old new held kept end tells is (inr (inr (found, answer, c))) =
       let here = found_is old.desk held found (Some kept) call.caller call.number tells is answer in
       let r = same_text old new kept end (bytes_eq kept.text kept.text) ((bytes_eq-Decides kept.text kept.text).1 refl)
-          (subst (λ (f : Option KeptText). Comes rose old (posting s call kept.text f) end new) here c) in
+      (subst (λ (f : Option KeptText). Comes rose old (posting s call kept.text f) end new) here c) in
       (r.0, inl r.1)
 
 pub repeats : Repeats

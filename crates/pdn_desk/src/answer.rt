@@ -92,5 +92,10 @@ fn body_of(alloc: Global, answer: &AnsweredQuery) -> Result<Vec<u8>, Memory>
     ensures { IfOk result (λ body. body.items
         ≡ answer_text answer.now.plan.columns answer.now.answered.rows answer.now.ticket) }
 {
-    answer_body(alloc, &answer.plan.columns, &answer.answered.rows, answer.ticket)
+    answer_body(
+        alloc,
+        &answer.plan.columns,
+        &answer.answered.rows,
+        answer.ticket,
+    )
 }

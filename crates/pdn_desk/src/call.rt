@@ -31,11 +31,7 @@ pub(crate) struct Asked<'a> {
 }
 
 /// Replies what is kept for a call.
-pub(crate) fn get<W: DeskOutside>(
-    alloc: Global,
-    call: Call,
-    world: &mut W,
-) -> Result<Reply, Memory>
+pub(crate) fn get<W: DeskOutside>(alloc: Global, call: Call, world: &mut W) -> Result<Reply, Memory>
     ensures { Came (W.state world.old) (W.state world.new) (Find call getting) (end_of result) }
 {
     match world.kept(alloc, call) {

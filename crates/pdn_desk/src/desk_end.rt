@@ -8,11 +8,7 @@ pub enum DeskEnd {
     /// The link failed before a request was read. Nothing was sent.
     Unread,
     /// The whole reply of this status was sent.
-    Replied {
-        status: u16,
-    },
+    Replied { status: u16 },
     /// The link failed while the reply of this status was sent: a front of it is out.
-    Lost {
-        status: u16,
-    },
+    Lost { status: u16 },
 }

@@ -8,7 +8,9 @@ use std::test::Fail;
 /// A call of ann's with this number and text.
 fn post(alloc: Global, number: u64, text: &str) -> Result<String, Fail> {
     let size = text.len();
-    Ok(format!(in alloc; "POST /callers/ann/queries/{number} HTTP/1.1\r\ncontent-length: {size}\r\n\r\n{text}")?)
+    Ok(format!(in alloc;
+        "POST /callers/ann/queries/{number} HTTP/1.1\r\ncontent-length: {size}\r\n\r\n{text}"
+    )?)
 }
 
 /// The reply of this status and phrase, as its format has it.
@@ -26,7 +28,8 @@ fn reply(alloc: Global, status: &str, body: &str) -> Result<String, Fail> {
 
 const COUNT: &str = "SELECT COUNT(*) FROM t WHERE c = 5;";
 
-const CALL: &str = "POST /callers/ann/queries/7 HTTP/1.1\r\ncontent-length: 35\r\n\r\nSELECT COUNT(*) FROM t WHERE c = 5;";
+const CALL: &str =
+    "POST /callers/ann/queries/7 HTTP/1.1\r\ncontent-length: 35\r\n\r\nSELECT COUNT(*) FROM t WHERE c = 5;";
 
 /// A request, the status of its reply and the error that it names; the most rows of table t, the next ticket before and after, and
 /// which calls fail.
@@ -53,27 +56,53 @@ const fn case(request: &'static str, status: &'static str, error: &'static str) 
 }
 
 const CASES: &[Case] = &[
-    case("GET /callers/ann/queries/7 HTTP/1.1\r\n", "400 Bad Request", "request"),
+    case(
+        "GET /callers/ann/queries/7 HTTP/1.1\r\n",
+        "400 Bad Request",
+        "request",
+    ),
     case(
         "POST /callers/ann/queries/7 HTTP/1.1\r\ntransfer-encoding: chunked\r\n\r\n",
         "501 Not Implemented",
         "encoding",
     ),
-    case("POST /callers/bob/queries/1 HTTP/1.1\r\n\r\n", "404 Not Found", "unknown"),
-    case("PUT /callers/ann/queries/1 HTTP/1.1\r\n\r\n", "405 Method Not Allowed", "method"),
-    case("POST /callers/ann/queries/1 HTTP/1.1\r\n\r\n", "411 Length Required", "length"),
+    case(
+        "POST /callers/bob/queries/1 HTTP/1.1\r\n\r\n",
+        "404 Not Found",
+        "unknown",
+    ),
+    case(
+        "PUT /callers/ann/queries/1 HTTP/1.1\r\n\r\n",
+        "405 Method Not Allowed",
+        "method",
+    ),
+    case(
+        "POST /callers/ann/queries/1 HTTP/1.1\r\n\r\n",
+        "411 Length Required",
+        "length",
+    ),
     case(
         "POST /callers/ann/queries/1 HTTP/1.1\r\ncontent-length: 4097\r\n\r\n",
         "413 Payload Too Large",
         "long",
     ),
     Case {
-        fails: Fails { desk: Some(1), ..NONE },
+        fails: Fails {
+            desk: Some(1),
+            ..NONE
+        },
         ..case(CALL, "503 Service Unavailable", "refused 10 desk")
     },
-    case("GET /callers/ann/queries/7 HTTP/1.1\r\na: \u{e9}\r\n\r\n", "404 Not Found", "unknown"),
+    case(
+        "GET /callers/ann/queries/7 HTTP/1.1\r\na: \u{e9}\r\n\r\n",
+        "404 Not Found",
+        "unknown",
+    ),
     Case {
-        fails: Fails { desk: Some(2), ..NONE },
+        fails: Fails {
+            desk: Some(2),
+            ..NONE
+        },
         ..case(CALL, "503 Service Unavailable", "refused 10 desk")
     },
     case(
@@ -92,7 +121,10 @@ const CASES: &[Case] = &[
         "refused 6 diag.code protected",
     ),
     Case {
-        fails: Fails { site_a: Some(1), ..NONE },
+        fails: Fails {
+            site_a: Some(1),
+            ..NONE
+        },
         ..case(CALL, "503 Service Unavailable", "refused 10 site a")
     },
     Case {
@@ -105,7 +137,10 @@ const CASES: &[Case] = &[
         "refused 7 limit 1 unit 0",
     ),
     Case {
-        fails: Fails { desk: Some(3), ..NONE },
+        fails: Fails {
+            desk: Some(3),
+            ..NONE
+        },
         ..case(CALL, "503 Service Unavailable", "refused 10 desk")
     },
     Case {
@@ -115,7 +150,10 @@ const CASES: &[Case] = &[
     },
     Case {
         then: 1,
-        fails: Fails { desk: Some(4), ..NONE },
+        fails: Fails {
+            desk: Some(4),
+            ..NONE
+        },
         ..case(CALL, "503 Service Unavailable", "refused 10 desk")
     },
 ];
@@ -158,7 +196,12 @@ fn ann_at_the_desk(rt: HostRuntime) -> Result<(), Fail> {
         (get, "200 OK", three, 1),
         (none, "404 Not Found", "{\"error\":\"unknown\"}", 1),
         (second.as_str(), "200 OK", four, 2),
-        (third.as_str(), "429 Too Many Requests", "{\"error\":\"spent\"}", 2),
+        (
+            third.as_str(),
+            "429 Too Many Requests",
+            "{\"error\":\"spent\"}",
+            2,
+        ),
         // a number that is kept is no new call
         (other.as_str(), "409 Conflict", "{\"error\":\"differs\"}", 2),
     ] {

@@ -21,7 +21,11 @@ pub fn schema(alloc: Global, rows: u32) -> Result<Schema, Fail> {
         table diag rows 16\ncolumn pid int public per 4\ncolumn code code protected\ncolumn day int private\n\
         table wide rows 256\ncolumn y int public per 64\ncolumn x int private\nend\n"
     )?;
-    Ok(read_schema(alloc, text.as_bytes()).ok().ok_or("it is a schema")?)
+    Ok(
+        read_schema(alloc, text.as_bytes())
+            .ok()
+            .ok_or("it is a schema")?,
+    )
 }
 
 /// A site that keeps these values in table t, and whose calls of these numbers, from 1, fail once it does.
@@ -80,7 +84,9 @@ pub fn desk(alloc: Global, next: MemDesk, site_a: Option<u64>) -> Result<Desk, F
         site_a: site(alloc, &[5, 7, 5], site_a)?,
         site_b: site(alloc, &[5], None)?,
         desk: next,
-        out: MemSink::new(alloc, 0, Vec::new(alloc)).ok().ok_or("memory")?,
+        out: MemSink::new(alloc, 0, Vec::new(alloc))
+            .ok()
+            .ok_or("memory")?,
     })
 }
 
@@ -102,7 +108,9 @@ pub fn ask<R: Threads + Sync>(
         deal: &deal,
         workers: Workers { count: 1 },
     };
-    let end = serve_conn(alloc, &mut link, schema, desk, &crew).ok().ok_or("memory")?;
+    let end = serve_conn(alloc, &mut link, schema, desk, &crew)
+        .ok()
+        .ok_or("memory")?;
     let sent = link.sent().to_vec(alloc)?;
     Ok((end, sent))
 }

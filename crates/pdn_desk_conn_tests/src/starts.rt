@@ -11,7 +11,9 @@ fn start(alloc: Global, command: &str) -> Result<String, Fail> {
         words.push(String::from_str(alloc, word)?)?;
     }
     let mut files = MemFiles::new(Vec::new(alloc), Vec::new(alloc));
-    let mut out = MemSink::new(alloc, 100, Vec::new(alloc)).ok().ok_or("memory")?;
+    let mut out = MemSink::new(alloc, 100, Vec::new(alloc))
+        .ok()
+        .ok_or("memory")?;
     match serve_start(alloc, &words, &mut files, &mut out) {
         Ok(_) => Err("there is no schema")?,
         Err(status) => {
