@@ -15,6 +15,7 @@ use std::{env, io};
 const HELP: &str = "\
 pdn run <sqlfile> <workers>                      answers the queries of the file over the rows of both sites
 pdn run <sqlfile> <workers> show <view>          the same, and behind each answer what a, b, the broker or all see of it
+pdn twin <a or b> <sqlfile> <folder> <workers>   what a or b sees of each query in two worlds, and the change of the tape
 pdn check <sqlfile>                              prints the schema, and each query's form, columns and segments
 pdn load <a or b> <table> <batch> <csvfile>      gives a site a batch of a table
 pdn --help                                       prints this

@@ -35,15 +35,37 @@ pub fn files_in<R: rt::Files + AllocGlobal + Clone + Drop>(
     Ok(files)
 }
 
+// The names of its files; a file in a folder of the case has that folder's name and a slash in front.
 fn names_in<R: rt::Files + AllocGlobal + Clone + Drop>(
     rt: &R,
     folder: &str,
 ) -> io::Result<Vec<String>> {
     let mut names = Vec::new(rt.alloc());
     for entry in fs::read_dir(rt, folder)? {
-        names.push(String::from_str(rt.alloc(), entry?.file_name())?)?;
+        let entry = entry?;
+        let name = String::from_str(rt.alloc(), entry.file_name())?;
+        if entry.file_type()?.is_dir() {
+            put_names(rt, folder, name.as_str(), &mut names)?;
+        } else {
+            names.push(name)?;
+        }
     }
     Ok(names)
+}
+
+fn put_names<R: rt::Files + AllocGlobal + Clone + Drop>(
+    rt: &R,
+    folder: &str,
+    inner: &str,
+    names: &mut Vec<String>,
+) -> io::Result<()> {
+    let path = format!(in rt.alloc(); "{folder}/{inner}")?;
+    for entry in fs::read_dir(rt, path.as_str())? {
+        let entry = entry?;
+        let file = entry.file_name();
+        names.push(format!(in rt.alloc(); "{inner}/{file}")?)?;
+    }
+    Ok(())
 }
 
 fn file_in<R: rt::Files + Drop>(

@@ -11,3 +11,5 @@ mod recording;
 mod recurrent_diagnosis;
 #[cfg(test)]
 mod sections;
+#[cfg(test)]
+mod waiting;

@@ -3,7 +3,10 @@ ghost use Rattle.std.specs.Prelude.{◌≤◌, length, All, IfOk};
 
 use crate::networks::{Network, file, network, words};
 use crate::recording::Recording;
+use crate::waiting::Waiting;
+use pdn_broker::Watch;
 use pdn_commands::pdn;
+use pdn_dealer::Deal;
 use std::alloc::{AllocError, Global};
 use std::test::Fail;
 use std::thread::Threads;
@@ -75,11 +78,11 @@ fn files(alloc: Global) -> Result<Vec<(String, Vec<u8>)>, AllocError>
 }
 
 // What comes of these commands, one after the other: the network, where each is done.
-fn done<R: Threads + Sync>(
+fn done<R: Threads + Sync, D: Deal + Watch>(
     rt: &R,
     alloc: Global,
     commands: &[&str],
-    deal: &Recording,
+    deal: &D,
 ) -> Result<Option<Network>, Fail> {
     let mut world = network(alloc, files(alloc)?, ROOM)?;
     for command in commands {
@@ -133,5 +136,15 @@ fn all_views_are_the_same_by_two_and_sixteen_workers(rt: HostRuntime) -> Result<
     let two = shown(&rt, alloc, "run q.sql 2 show all")?;
     let sixteen = shown(&rt, alloc, "run q.sql 16 show all")?;
     assert!(rt; two.len() > 100_000 && two == sixteen);
+    Ok(())
+}
+
+#[test]
+fn the_first_secure_unit_sees_the_other_eight_of_two_workers(rt: HostRuntime) -> Result<(), Fail> {
+    let alloc = rt.alloc();
+    let deal = Waiting::new(alloc, 9);
+    let commands = ["load a diag 1 a.csv", "load b diag 1 b.csv", "run q.sql 2"];
+    let world = done(&rt, alloc, &commands, &deal)?;
+    assert!(rt; world.is_some() && deal.met());
     Ok(())
 }

@@ -6,15 +6,14 @@ use Rattle.pdn_view.specs.declared.view.Party.{Party}
 use Rattle.pdn_broker.specs.Runs.{Tape}
 use Rattle.pdn_query.specs.Answering.{query_script}
 use Rattle.pdn_query.specs.Script.{Script}
-use Rattle.pdn_commands.specs.Commands.{Task, Run, Check, Load, task_of, task_script, run_script, shown, script, SameOnTapes}
+use Rattle.pdn_commands.specs.Commands.{Task, Run, Check, Twin, Load, task_of, task_script, run_script, shown, script, SameOnTapes}
 use Rattle.pdn_commands.specs.Running.{queries_script}
 use Rattle.pdn_commands.specs.Script.{with_inputs, with_queries}
 
 module _ (tape other : Tape) where
   -- nothing of the tape stands in an answer without views
   queries_same : (s : SchemaModel) (number : ℕ) (queries : List Query) → queries_script tape [] s number queries ≡ queries_script other [] s number queries
-  queries_same s number [] = refl
-  queries_same s number (query ∷ queries) = ap (query_script other [] s number query) (queries_same s (number + 1) queries)
+  queries_same s number queries = refl
 
   run_same : (file : List ℕ) → run_script tape [] file ≡ run_script other [] file
   run_same file = ap (λ (next : SchemaModel → List ℕ → Script). with_inputs file next) (λ i s sql. ap (with_queries sql) (λ j queries. queries_same s 1 queries j) i)
@@ -25,6 +24,7 @@ module _ (tape other : Tape) where
       let same : run_script tape [] file ≡ run_script other [] file = run_same file in
       subst (λ (shows : List Party). run_script tape shows file ≡ run_script other shows file) (sym none) same
   task_same (Some (Check file)) none = refl
+  task_same (Some (Twin site file folder workers)) none = cc
   task_same (Some (Load site table number file)) none = refl
 
 pub same_on_tapes : SameOnTapes

@@ -1,5 +1,5 @@
 -- What the words of a command line ask for.
-use Rattle.std.proofs.Common.{◌≡◌, ℕ, List, sym, subst, Some, Option}
+use Rattle.std.proofs.Common.{◌≡◌, ◌≤◌, ◌<◌, ℕ, List, [], ◌∷◌, length, map, arith, refl, sym, subst, None, Some, Option}
 use Rattle.std.specs.Prelude.{false}
 use Rattle.pdn_base.specs.declared.site.Site.{Site}
 use Rattle.pdn_base.specs.declared.site.Site.TheVariants.{A, B}
@@ -8,7 +8,7 @@ use Rattle.pdn_broker.specs.Runs.{Tape}
 use Rattle.pdn_query.specs.Questions.{Told, OnlyAt}
 use Rattle.pdn_query.specs.Walk.{End, Along}
 use Rattle.pdn_query.specs.World.{WorldModel}
-use Rattle.pdn_commands.specs.Commands.{Task, Run, Load, task_of, task_script, script, loads, runs}
+use Rattle.pdn_commands.specs.Commands.{Task, Run, Twin, Load, task_of, task_script, script, run_task, loads, runs}
 
 -- the script is that of the task that the words ask for
 pub asked : {a b : WorldModel} {end : End} (tape : Tape) (words : List (List ℕ)) (task : Option Task) → task ≡ task_of words → Along a b (task_script tape task) end → Along a b (script tape words) end
@@ -27,9 +27,34 @@ module _ (table : List ℕ) (number : ℕ) (file : List ℕ) (task : Option Task
 
 -- ---- whether tickets may be taken
 
+pub twin_takes : {X : Type 0} (site : Site) (file folder : List ℕ) (workers : ℕ) (task : Option Task) → Some (Twin site file folder workers) ≡ task → runs task ≡ false → X
+twin_takes site file folder workers task e off = let on : runs (Some (Twin site file folder workers)) ≡ false = subst (λ (t : Option Task). runs t ≡ false) (sym e) off in cc
+
 pub run_takes : {X : Type 0} (file : List ℕ) (workers : ℕ) (parties : List Party) (task : Option Task) → Some (Run file workers parties) ≡ task → runs task ≡ false → X
 run_takes file workers parties task e off = let on : runs (Some (Run file workers parties)) ≡ false = subst (λ (t : Option Task). runs t ≡ false) (sym e) off in cc
 
 pub load_takes_none : (site : Site) (old new : Told) → OnlyAt site old new → new.desk ≡ old.desk
 load_takes_none A old new only = only.2
 load_takes_none B old new only = only.2
+
+-- ---- a run has two words or four
+module _ {X : Type 0} (f : X → List ℕ) where
+  pub run_of_less : (words : List X) → length words < 2 → None ≡ run_task (map f words)
+  run_of_less [] l = refl
+  run_of_less (a ∷ []) l = refl
+  run_of_less (a ∷ b ∷ words) l = absurd (omega (arith, l))
+
+  pub run_of_three : (words : List X) → 3 ≤ length words → length words < 4 → None ≡ run_task (map f words)
+  run_of_three [] m l = absurd (omega (arith, m))
+  run_of_three (a ∷ []) m l = absurd (omega (arith, m))
+  run_of_three (a ∷ b ∷ []) m l = absurd (omega (arith, m))
+  run_of_three (a ∷ b ∷ c ∷ []) m l = refl
+  run_of_three (a ∷ b ∷ c ∷ d ∷ words) m l = absurd (omega (arith, l))
+
+  pub run_of_more : (words : List X) → 5 ≤ length words → None ≡ run_task (map f words)
+  run_of_more [] m = absurd (omega (arith, m))
+  run_of_more (a ∷ []) m = absurd (omega (arith, m))
+  run_of_more (a ∷ b ∷ []) m = absurd (omega (arith, m))
+  run_of_more (a ∷ b ∷ c ∷ []) m = absurd (omega (arith, m))
+  run_of_more (a ∷ b ∷ c ∷ d ∷ []) m = absurd (omega (arith, m))
+  run_of_more (a ∷ b ∷ c ∷ d ∷ e ∷ words) m = refl

@@ -17,7 +17,7 @@ use Rattle.pdn_schema.specs.Rows.{IsRefused}
 use Rattle.pdn_sql.specs.declared.query.Query.{Query}
 use Rattle.pdn_commands.specs.Commands.{Task, Run, Check, Twin, Load, task_of}
 use Rattle.pdn_query.specs.Answering.{IsTaken, KeepsAll, AllValid, units_over}
-use Rattle.pdn_commands.specs.Running.{AreLeft, AreAnswers, with_given}
+use Rattle.pdn_commands.specs.Running.{IsReached, AreAnswers, with_given}
 use Rattle.pdn_commands.specs.Checking.{AreReported}
 use Rattle.pdn_schema.specs.Printing.{text_of}
 use Rattle.pdn_site.specs.Models.{UnitModel}
@@ -70,19 +70,11 @@ pub record AskedQueries (told : Told) (words : List (List ℕ)) : Type 0 where
   pub queries : List Query
   pub are : AreQueriesIn run.sql (Ok queries)
 
--- one of these queries, each before which is answered and had a ticket
-pub record IsReached (told : Told) (s : SchemaModel) (queries : List Query) (query : Query) : Type 0 where
-  pub before : List Query
-  pub later : List Query
-  pub stands : queries ≡ before ++ query ∷ later
-  pub taken : AllByRecursion (IsTaken told.a told.b s) before
-  pub left : AreLeft told.desk (length before)
-
 -- a query is reached that has no plan, and this is why
 pub record IsUnbound (told : Told) (words : List (List ℕ)) (why : Unbound) : Type 0 where
   pub all : AskedQueries told words
   pub query : Query
-  pub reached : IsReached told all.run.s all.queries query
+  pub reached : IsReached (IsTaken told.a told.b all.run.s) told.desk all.queries query
   pub is : IsBound all.run.s query (Err why)
 
 -- A check is asked for, its files are there, and the schema file says this schema.
@@ -117,7 +109,7 @@ CauseUnbound told words why = IsUnbound told words why ⊎ IsUnreported told wor
 pub record IsAsked (told : Told) (words : List (List ℕ)) : Type 0 where
   pub all : AskedQueries told words
   pub query : Query
-  pub reached : IsReached told all.run.s all.queries query
+  pub reached : IsReached (IsTaken told.a told.b all.run.s) told.desk all.queries query
   pub plan : PlanModel
   pub binds : IsBound all.run.s query (Ok plan)
   pub a : List Rows

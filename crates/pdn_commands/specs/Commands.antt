@@ -64,10 +64,14 @@ abbrev pub run_of : List ℕ → Option ℕ → Option (List Party) → Option T
 run_of file (Some workers) (Some parties) = Some (Run file workers parties)
 run_of file workers parties = None
 
--- `run <sqlfile> <workers>`, and behind it `show <a, b, broker or all>`
+-- `run <sqlfile> <workers> show <a, b, broker or all>`
+abbrev pub show_task : List ℕ → List ℕ → List ℕ → List ℕ → Option Task
+show_task file workers verb word = if bytes_eq verb (codes "show") then run_of file (workers_of workers) (shown_of word) else None
+
+-- the same, or without the two words at its end
 abbrev pub run_task : List (List ℕ) → Option Task
 run_task (file ∷ workers ∷ []) = run_of file (workers_of workers) (Some [])
-run_task (file ∷ workers ∷ verb ∷ word ∷ []) = if bytes_eq verb (codes "show") then run_of file (workers_of workers) (shown_of word) else None
+run_task (file ∷ workers ∷ verb ∷ word ∷ []) = show_task file workers verb word
 run_task words = None
 
 -- `check <sqlfile>`

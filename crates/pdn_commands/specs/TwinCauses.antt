@@ -19,7 +19,7 @@ use Rattle.pdn_query.specs.Each.{EachWith}
 use Rattle.pdn_query.specs.Questions.{Told, Unbound, Broken, Hidden, IsBound, Holds, Keeps, AreQueriesIn, AreRowsIn, with_desk}
 use Rattle.pdn_commands.specs.Causes.{Inputs, IsFirstWrong, AreWrong}
 use Rattle.pdn_commands.specs.Commands.{Twin, task_of}
-use Rattle.pdn_commands.specs.Running.{AreLeft, IsGiven, with_given}
+use Rattle.pdn_commands.specs.Running.{IsReached, AreTexts, with_given}
 use Rattle.pdn_commands.specs.Twinning.{TwoWorlds, other_site, second_world, given_tables, rows_file, twin_words, twin_text}
 
 -- ---- what a twin goes over
@@ -106,19 +106,11 @@ pub record IsTwinTaken (w : TwoWorlds) (query : Query) : Type 0 where
   pub units : List UnitModel
   pub fits : units_over w.schema plan.root w.first.a w.first.b ≡ Ok units
 
--- one of these queries, each before which is taken and had a ticket
-pub record IsTwinReached (told : Told) (w : TwoWorlds) (queries : List Query) (query : Query) : Type 0 where
-  pub before : List Query
-  pub later : List Query
-  pub stands : queries ≡ before ++ query ∷ later
-  pub taken : AllByRecursion (IsTwinTaken w) before
-  pub left : AreLeft told.desk (length before)
-
 -- a query of a twin is reached
 pub record TwinQuery (told : Told) (words : List (List ℕ)) : Type 0 where
   pub agreed : TwinAgreed told words
   pub query : Query
-  pub reached : IsTwinReached told (worlds_of agreed.valid.rows) agreed.valid.rows.all.queries query
+  pub reached : IsReached (IsTwinTaken (worlds_of agreed.valid.rows)) told.desk agreed.valid.rows.all.queries query
 
 -- ---- causes
 
@@ -169,11 +161,9 @@ pub record IsTwinText (tape : Tape) (w : TwoWorlds) (number ticket : ℕ) (query
   pub taken : IsTwinTaken w query
   pub printed : text ≡ twin_text w.site number ticket (twin_words tape w taken.plan.root taken.units ticket)
 
--- the text is that of these queries, one after the other, before which so many tickets were given
+-- the text is the twins of these queries
 abbrev pub AreTwins : Tape → Told → TwoWorlds → ℕ → ℕ → List Query → List ℕ → Type 0
-AreTwins tape told w number before [] text = text ≡ []
-AreTwins tape told w number before (query ∷ queries) text = (ticket : ℕ) × (first : List ℕ) × (more : List ℕ) × (text ≡ first ++ more) × IsGiven told.desk before ticket
-    × IsTwinText tape w number ticket query first × AreTwins tape told w (number + 1) (before + 1) queries more
+AreTwins tape told w = AreTexts (IsTwinText tape w) told.desk
 
 -- The worlds agree in what is public, and the text is the queries' twins; what the sites keep is as it was, and the desk gave a ticket for
 -- each query. That in each twin both views are equal, and the change one to one, are laws of two worlds.

@@ -22,6 +22,7 @@ use Rattle.pdn_query.specs.Each.{each, keeping}
 use Rattle.pdn_query.specs.Comparing.{comparing}
 use Rattle.pdn_query.specs.Questions.{File}
 use Rattle.pdn_query.specs.Script.{Script, Finish, Say, Ask, binding}
+use Rattle.pdn_commands.specs.Running.{numbered}
 use Rattle.pdn_commands.specs.Script.{with_inputs, with_queries, importing}
 
 -- ---- two worlds
@@ -61,7 +62,7 @@ abbrev pub second_ready : TwoWorlds → Node → List UnitModel → PreparedMode
 second_ready w root units = prepared_of w.schema root w.second.a w.second.b units
 
 -- the site's view in the first world on the tape and in the second on the changed tape, and the change
-abbrev pub twin_of : Site → PreparedModel → PreparedModel → Tape → ℕ → TwinWords
+unfoldable pub twin_of : Site → PreparedModel → PreparedModel → Tape → ℕ → TwinWords
 twin_of site p q tape ticket = record {
   first = site_view site p tape ticket;
   second = site_view site q (shift_tape site p q ticket tape) ticket;
@@ -80,11 +81,14 @@ abbrev pub place_text : ℕ → List ℕ
 place_text place = codes " " ++ decimal place
 
 -- a unit, and the places of its section that are changed
-abbrev pub changed_line : ChangeWords → List ℕ
-changed_line change = line (codes "changed unit " ++ decimal change.unit ++ codes " words" ++ flat_map place_text change.places)
+unfoldable pub changed_head : ℕ → List ℕ
+changed_head unit = codes "changed unit " ++ decimal unit ++ codes " words"
+
+unfoldable pub changed_line : ChangeWords → List ℕ
+changed_line change = line (changed_head change.unit ++ flat_map place_text change.places)
 
 -- the twin of the query of this number and ticket: both views, and the change of each section
-abbrev pub twin_text : Site → ℕ → ℕ → TwinWords → List ℕ
+unfoldable pub twin_text : Site → ℕ → ℕ → TwinWords → List ℕ
 twin_text site query ticket twin = twin_line site query ticket ++ view_text twin.first ++ view_text twin.second ++ flat_map changed_line twin.changed
 
 -- ---- what is asked
@@ -124,10 +128,9 @@ twin_planned tape w number plan next = or_large (λ units. ticketing (λ ticket.
 abbrev pub twin_query : Tape → TwoWorlds → ℕ → Query → Script → Script
 twin_query tape w number query next = binding w.schema query (λ plan. twin_planned tape w number plan next)
 
--- each query in order, with its number
+-- the twin of each query
 abbrev pub twins_script : Tape → TwoWorlds → ℕ → List Query → Script
-twins_script tape w number [] = Finish
-twins_script tape w number (query ∷ queries) = twin_query tape w number query (twins_script tape w (number + 1) queries)
+twins_script tape w = numbered (twin_query tape w)
 
 -- Each table's file in the folder is read, and the queries; then the rows of those files, and the rows that both sites keep.
 abbrev pub twin_script : Tape → Site → List ℕ → List ℕ → Script

@@ -5,7 +5,7 @@ ghost use Rattle.std.specs.List.{list_all};
 ghost use Rattle.std.specs.String.{string_bytes};
 ghost use Rattle.std.specs.Option.{option_map};
 ghost use Rattle.pdn_base.specs.Numbers.{value_of};
-ghost use Rattle.pdn_commands.specs.Commands.{task_of, run_task, check_task, twin_task, load_task, workers_of, shown_of, site_of, batch_of, seen};
+ghost use Rattle.pdn_commands.specs.Commands.{task_of, run_task, show_task, check_task, twin_task, load_task, workers_of, shown_of, site_of, batch_of, seen};
 ghost use Rattle.pdn_query.specs.Showing.{parties_of};
 
 use pdn_base::{Site, number};
@@ -65,13 +65,29 @@ fn read_run(words: &[String]) -> Option<Command<'_>>
             workers: read_workers(workers.as_bytes())?,
             show: None,
         }),
-        [file, workers, verb, word] if verb.as_str() == "show" => Some(Command::Run {
-            file: file.as_str(),
-            workers: read_workers(workers.as_bytes())?,
-            show: Some(read_show(word.as_str())?),
-        }),
+        [file, workers, verb, word] => {
+            read_shown(
+                file.as_str(),
+                workers.as_bytes(),
+                verb.as_str(),
+                word.as_str(),
+            )
+        }
         _ => None,
     }
+}
+
+fn read_shown<'a>(file: &'a str, workers: &[u8], verb: &str, word: &str) -> Option<Command<'a>>
+    ensures { option_map seen result ≡ show_task file.now workers.now verb.now word.now }
+{
+    if verb != "show" {
+        return None;
+    }
+    Some(Command::Run {
+        file,
+        workers: read_workers(workers)?,
+        show: Some(read_show(word)?),
+    })
 }
 
 // Whose views are shown.

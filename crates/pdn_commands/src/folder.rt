@@ -1,5 +1,5 @@
 //! The CSV files of a folder: rows of tables for the second world.
-ghost use Rattle.std.specs.Prelude.{◌≡◌, ◌<◌, ◌-◌, ◌^◌, ◌×◌, ℕ, List, Some, None, Option, length, map, IfOk, IfSome};
+ghost use Rattle.std.specs.Prelude.{◌≡◌, ◌<◌, ◌-◌, ◌^◌, ℕ, List, Some, None, Option, length, map, IfOk, IfSome};
 ghost use Rattle.std.specs.List.{All, zip};
 ghost use Rattle.std.specs.String.{string_bytes};
 ghost use Rattle.pdn_base.specs.Bounds.{IsShort};

@@ -103,25 +103,26 @@ fn twin_query<R: Threads + Sync, W: Outside, D: Deal + Watch>(
     let plan = bound(alloc, &worlds.schema, query)?;
     let both = ready_in_both(alloc, worlds, &plan)?;
     let ticket = next_ticket(alloc, world)?;
-    let text = twinned(alloc, both, number, ticket, crew)?;
+    let text = twinned(alloc, both, number, ticket, crew.deal)?;
     say(world, &text)
 }
 
 // The text of a query's twin, where it is made ready in both worlds.
-fn twinned<R: Threads + Sync, D: Deal + Watch>(
+#[tactic(auto, unfolding(crate::specs::Twinning::twin_of))]
+fn twinned<D: Deal>(
     alloc: Global,
     worlds: Worlds,
     number: u64,
     ticket: u64,
-    crew: &Crew<'_, R, D>,
+    deal: &D,
 ) -> Result<Vec<u8>, Memory>
     requires alike { AreWorlds worlds.site worlds.first worlds.second }
     requires there { ticket < 2 ^ 40 }
     ensures { IfOk result (λ text. text.items ≡ twin_text worlds.site number ticket
-        (twin_of worlds.site worlds.first worlds.second (D.tape crew.now.deal.now) ticket)) }
+        (twin_of worlds.site worlds.first worlds.second (D.tape deal.now) ticket)) }
 {
     let site = worlds.site;
-    let twin = twin_in(crew.rt, alloc, worlds, ticket, crew.deal, crew.workers.count)?;
+    let twin = twin_in(alloc, worlds, ticket, deal)?;
     twin_text(alloc, site, number, ticket, &twin)
 }
 
@@ -170,6 +171,8 @@ fn ready_in(alloc: Global, schema: &Schema, plan: &Plan, tables: &Union) -> Resu
         (AreReady schema.now plan.now.root tables.now.a tables.now.b)
         (NotReady schema.now plan.now.root tables.now.a tables.now.b) }
 {
+    // what a schema keeps is known once it is looked at
+    let _floor = schema.floor;
     let a = tables.a.copy(alloc)?;
     let b = tables.b.copy(alloc)?;
     ready(alloc, schema, plan, a, b)

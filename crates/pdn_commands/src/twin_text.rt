@@ -3,7 +3,7 @@ ghost use Rattle.std.specs.Prelude.{◌≡◌, ◌++◌, IfOk, OnOk};
 ghost use Rattle.std.specs.List.{flat_map};
 ghost use Rattle.std.specs.String.{string_bytes};
 ghost use Rattle.pdn_view.specs.Lines.{view_text};
-ghost use Rattle.pdn_commands.specs.Twinning.{twin_line, place_text, changed_line, twin_text};
+ghost use Rattle.pdn_commands.specs.Twinning.{twin_line, place_text, changed_head, changed_line, twin_text};
 
 use pdn_base::{Memory, Site};
 use pdn_twin::{Change, Twin};
@@ -11,6 +11,7 @@ use pdn_view::{View, print_view};
 use std::alloc::Global;
 
 /// The text of the twin of the query of this number and ticket.
+#[tactic(auto, unfolding(crate::specs::Twinning::twin_text))]
 pub(crate) fn twin_text(
     alloc: Global,
     site: Site,
@@ -52,15 +53,22 @@ fn put_changes(alloc: Global, out: &mut Vec<u8>, changes: &[Change]) -> Result<(
     Ok(())
 }
 
+#[tactic(auto, unfolding(crate::specs::Twinning::changed_line))]
 fn put_change(alloc: Global, out: &mut Vec<u8>, change: &Change) -> Result<(), Memory>
     ensures { OnOk result (out.new.items ≡ out.old.items ++ changed_line change.now) }
 {
-    let unit = change.unit;
-    let head = format!(in alloc; "changed unit {unit} words")?;
+    let head = changed_head(alloc, change.unit)?;
     out.extend_from_slice(head.as_bytes())?;
     put_places(alloc, out, &change.places)?;
     out.push(b'\n')?;
     Ok(())
+}
+
+#[tactic(auto, unfolding(crate::specs::Twinning::changed_head))]
+fn changed_head(alloc: Global, unit: u64) -> Result<String, Memory>
+    ensures { IfOk result (λ head. string_bytes head ≡ changed_head unit) }
+{
+    Ok(format!(in alloc; "changed unit {unit} words")?)
 }
 
 fn put_places(alloc: Global, out: &mut Vec<u8>, places: &[u64]) -> Result<(), Memory>

@@ -116,11 +116,7 @@ fn kept_both<W: Outside>(alloc: Global, schema: &Schema, world: &mut W) -> Resul
 }
 
 // Of each table the rows that are given, or else the kept ones.
-fn given_tables(
-    alloc: Global,
-    given: &[Option<Rows>],
-    kept: &Tables,
-) -> Result<Tables, Memory>
+fn given_tables(alloc: Global, given: &[Option<Rows>], kept: &Tables) -> Result<Tables, Memory>
     requires count { length given.now ≡ length kept.now }
     requires given { All (λ (rows : Option RowsModel). IfSome rows IsShort) given.now }
     requires kept { All (λ (rows : RowsModel). length rows < 2 ^ 32 - 1) kept.now }
@@ -199,12 +195,7 @@ fn agreed(
 }
 
 // The world in which the other site has these tables.
-fn second_world(
-    alloc: Global,
-    site: Site,
-    first: &Union,
-    tables: Tables,
-) -> Result<Union, Memory>
+fn second_world(alloc: Global, site: Site, first: &Union, tables: Tables) -> Result<Union, Memory>
     ensures { IfOk result (λ second. second ≡ second_world site first.now tables) }
 {
     match site {

@@ -1,18 +1,14 @@
 -- The runs of a query's units in two worlds, the second on the changed tape.
-use Rattle.std.proofs.Common.{◌≡◌, ℕ, zero, suc, ◌+◌, ◌-◌, ◌<◌, Bool, true, cond, List, [], ◌∷◌, ◌++◌, length, get_or, map, refl, sym, ap, ap₂, ◌∙◌, subst, arith, append-nil, Result, Ok, Err, IfOk}
+use Rattle.std.proofs.Common.{◌≡◌, ℕ, zero, suc, ◌+◌, ◌-◌, ◌<◌, Bool, true, cond, List, [], ◌∷◌, ◌++◌, length, get_or, map, refl, sym, ap, ap₂, ◌∙◌, subst, arith, append-nil}
 use Rattle.std.specs.Prelude.{nat_lt}
 use Rattle.std.proofs.lemmas.Bool.{and_from, lt-ltb}
 use Rattle.std.proofs.lemmas.List.{map-append}
-use Rattle.std.specs.declared.alloc.Global.{Global}
-use Rattle.std.specs.declared.vec.Vec.{Vec}
 use Rattle.pdn_base.specs.declared.site.Site.{Site}
 use Rattle.pdn_circuit.specs.Gates.{Net, InputWords}
 use Rattle.pdn_dealer.specs.Sections.{layout_of, section_length}
 use Rattle.pdn_dealer.specs.Tapes.{first_words}
 use Rattle.pdn_gmw.specs.Pairs.{Run}
-use Rattle.pdn_gmw.proofs.Meeting.{length-first_words}
 use Rattle.pdn_shift.specs.Changes.{shift_words}
-use Rattle.pdn_pool.specs.Results.{EachGives}
 use Rattle.pdn_site.specs.declared.unit.UnitKind.{UnitKind}
 use Rattle.pdn_site.specs.declared.unit.UnitKind.TheVariants.{Plain, Secure, Root}
 use Rattle.pdn_site.specs.Models.{UnitModel}
@@ -20,21 +16,19 @@ use Rattle.pdn_site.specs.Engines.{no_unit}
 use Rattle.pdn_broker.specs.Runs.{Tape, Takes, run_on, section_at}
 use Rattle.pdn_broker.specs.Units.{UnitsTell, net_or, is_secure, is_dealt, numbers_upto, secure_numbers}
 use Rattle.pdn_broker.specs.Prepared.{PreparedModel, IsPrepared}
-use Rattle.pdn_broker.specs.Running.{unit_at, root_number, root_of, run_at, secure_run, secure_runs, outputs_of, root_run, runs_of}
+use Rattle.pdn_broker.specs.Running.{unit_at, root_number, run_at, secure_run, secure_runs, outputs_of, root_run, runs_of}
 use Rattle.pdn_broker.proofs.UnitLaws.{compiled_tell}
 use Rattle.pdn_broker.proofs.PreparedLaws.{secure_kind, secure_takes, root_fits}
 use Rattle.pdn_broker.proofs.UnitPlaces.{before_root, numbers_more, secure_is_dealt}
-use Rattle.pdn_worlds.specs.PlainWords.{net_at, secure_plain, root_plain, plain_by, plain_at}
+use Rattle.pdn_worlds.specs.PlainWords.{net_at, secure_plain, root_plain, plain_by}
 use Rattle.pdn_worlds.specs.TapeChange.{section_length_at, has_section, section_words, changed_words, shift_tape}
-use Rattle.pdn_worlds.specs.TwoWorlds.{AreWorlds}
 use Rattle.pdn_worlds.proofs.TapeLaws.{changed_is_read}
 use Rattle.pdn_worlds.proofs.QueryLaws.{root_runs_on}
 use Rattle.pdn_twin.specs.declared.starts.Start.{Start}
 use Rattle.pdn_twin.specs.declared.starts.Starts.{Starts}
 use Rattle.pdn_twin.specs.declared.unit_twin.UnitTwin.{UnitTwin}
 use Rattle.pdn_twin.specs.Twins.{ChangeWords, differing, change_at, changes}
-use Rattle.pdn_twin.specs.UnitTwins.{plain, changed_section, start_on, twin_on, secure_start, root_start, secure_starts, secure_twin, secure_twins, root_twin}
-use Rattle.pdn_twin.proofs.WorldLaws.{same_units}
+use Rattle.pdn_twin.specs.UnitTwins.{changed_section, start_on, twin_on, secure_start, root_start, secure_starts, secure_twin, secure_twins, root_twin}
 
 -- ---- the root is the last unit, and the only one of its kind
 tells : (p : PreparedModel) → IsPrepared p → UnitsTell p.a.schema p.a.tables p.b.tables p.a.root p.units
@@ -80,31 +74,19 @@ dealt_numbers p is =
 starts_as : (m n : Net) (s t : Start) → m ≡ n → s ≡ t → Takes n t.own t.given → Takes m s.own s.given
 starts_as m n s t e f h = subst (λ (net : Net). Takes net s.own s.given) (sym e) (subst (λ (one : Start). Takes n one.own one.given) (sym f) h)
 
-pub secure_fits : (p : PreparedModel) → IsPrepared p → (u : ℕ) (net : Net) (start : Start) → u < length p.units → is_secure (unit_at p u).kind ≡ true → net ≡ net_at p u → start ≡ secure_start p u → Takes net start.own start.given
-secure_fits p is u net start h k n s = starts_as net (net_at p u) start (secure_start p u) n s (secure_takes p is u h (secure_kind (unit_at p u).kind k))
+pub taken_as : (m n : Net) (start : Start) → m ≡ n → Takes n start.own start.given → Takes m start.own start.given
+taken_as m n start e h = subst (λ (net : Net). Takes net start.own start.given) (sym e) h
+
+pub secure_fits : (p : PreparedModel) → IsPrepared p → (u : ℕ) (start : Start) → u < length p.units → is_secure (unit_at p u).kind ≡ true → start ≡ secure_start p u → Takes (net_at p u) start.own start.given
+secure_fits p is u start h k s = subst (λ (one : Start). Takes (net_at p u) one.own one.given) (sym s) (secure_takes p is u h (secure_kind (unit_at p u).kind k))
 
 pub root_takes : (p : PreparedModel) → IsPrepared p → (tape : Tape) (ticket u : ℕ) (net : Net) (start : Start) (runs : List Run) → u ≡ root_number p → net ≡ net_at p u → start ≡ root_start p runs → runs ≡ secure_runs p tape ticket
     → Takes net start.own start.given
 root_takes p is tape ticket u net start runs e n s r =
     starts_as net (net_at p (root_number p)) start (root_start p (secure_runs p tape ticket)) (n ∙ ap (net_at p) e) (s ∙ ap (root_start p) r) (root_fits p is tape ticket)
 
--- ---- jobs, each of which gives what it is seen as
-each_given : {X : Type 0} (jobs outs : List X) → length outs ≡ length jobs → EachGives (λ (job out : X). out ≡ job) jobs outs → outs ≡ jobs
-each_given [] [] l e = refl
-each_given [] (o ∷ os) l e = absurd (omega (arith, l))
-each_given (j ∷ js) [] l e = absurd (omega (arith, l))
-each_given (j ∷ js) (o ∷ os) l e = ap₂ (λ x xs. x ∷ xs) (e 0 j o (omega arith)) (each_given js os (omega (arith, l)) (λ i job out h. e (suc i) job out (omega (arith, h))))
-
-pub twins_given : {E : Type 0} (jobs twins : List UnitTwin) (r : Result (Vec UnitTwin Global) E) → IfOk r (λ outs. length outs.items ≡ length jobs)
-    → IfOk r (λ outs. EachGives (λ (job twin : UnitTwin). twin ≡ job) jobs outs.items) → jobs ≡ twins → IfOk r (λ outs. outs.items ≡ twins)
-twins_given jobs twins (Ok outs) count each are = each_given jobs outs.items count each ∙ are
-twins_given jobs twins (Err e) count each are = count
-
--- ---- one unit
-module _ (site : Site) (p q : PreparedModel) (worlds : AreWorlds site p q) where
-  same : q.units ≡ p.units
-  same = same_units site p q worlds
-
+-- ---- one unit, where both worlds have the same units
+module _ (site : Site) (p q : PreparedModel) (same : q.units ≡ p.units) where
   pub second_net : (u : ℕ) → net_at p u ≡ net_at q u
   second_net u = ap (λ (units : List UnitModel). net_or (get_or units u no_unit).circuit) (sym same)
 
@@ -172,31 +154,31 @@ module _ (site : Site) (p q : PreparedModel) (worlds : AreWorlds site p q) where
       change = change_at site p q tape ticket (root_number p);
     }
 
-    root_changed : (words : List ℕ) → words ≡ section_words p tape ticket (root_number p)
+    root_changed : IsPrepared p → (words : List ℕ) → words ≡ section_words p tape ticket (root_number p)
         → changed_section site (net_at p (root_number p)) both_roots words ≡ changed_words site p q tape ticket (root_number p)
-    root_changed words w =
+    root_changed is words w =
         let u : ℕ = root_number p in
         let net : Net = net_at p u in
-        let kind : (unit_at p u).kind ≡ Root = root_kind p worlds.first in
+        let kind : (unit_at p u).kind ≡ Root = root_kind p is in
         let second : (unit_at q u).kind ≡ Root = ap (λ (units : List UnitModel). (get_or units u no_unit).kind) same ∙ kind in
         ap₂ (λ (a b : InputWords). shift_words site net a b words) (root_runs_on p tape ticket) (root_runs_on q next ticket)
         ∙ ap (λ (ws : List ℕ). shift_words site net (root_plain p) (root_plain q) ws) w
         ∙ sym (ap₂ (λ (a b : InputWords). shift_words site net a b (section_words p tape ticket u)) (ap (plain_by p u) kind) (ap (plain_by q u) second))
 
-    root_is : (words : List ℕ) → words ≡ section_words p tape ticket (root_number p) → twin_on site (net_at p (root_number p)) (root_number p) both_roots words ≡ root_twin site p q tape ticket
+    root_is : IsPrepared p → (words : List ℕ) → words ≡ section_words p tape ticket (root_number p) → twin_on site (net_at p (root_number p)) (root_number p) both_roots words ≡ root_twin site p q tape ticket
     unfolding root_twin root_run
-    root_is words w =
+    root_is is words w =
         let u : ℕ = root_number p in
-        twin_from u both_roots words (has u (root_within p worlds.first) (root_dealt p worlds.first u refl)) w (root_changed words w)
+        twin_from u both_roots words (has u (root_within p is) (root_dealt p is u refl)) w (root_changed is words w)
         ∙ ap root_pair second_root
 
-    pub root_twin_is : (u : ℕ) (net : Net) (starts : Starts) (words : List ℕ) (len : ℕ) (first second : List Run) (twin : UnitTwin) → u ≡ root_number p → net ≡ net_at p u → starts ≡ record { first = root_start p first; second = root_start q second }
+    pub root_twin_is : IsPrepared p → (u : ℕ) (net : Net) (starts : Starts) (words : List ℕ) (len : ℕ) (first second : List Run) (twin : UnitTwin) → u ≡ root_number p → net ≡ net_at p u → starts ≡ record { first = root_start p first; second = root_start q second }
         → first ≡ secure_runs p tape ticket → second ≡ secure_runs q next ticket → words ≡ first_words (tape ticket u) len → len ≡ section_length net → twin ≡ twin_on site net u starts words → twin ≡ root_twin site p q tape ticket
-    root_twin_is u net starts words len first second twin e n s f g w l t =
+    root_twin_is is u net starts words len first second twin e n s f g w l t =
         let at : net ≡ net_at p (root_number p) = n ∙ ap (net_at p) e in
         let begun : starts ≡ both_roots = s ∙ ap₂ roots f g in
         let section : words ≡ section_words p tape ticket (root_number p) = w ∙ ap₂ (λ v k. first_words (tape ticket v) k) e (l ∙ ap (λ (m : Net). section_length m) at) in
-        t ∙ ap₂ (λ (m : Net) (one : Starts). twin_on site m u one words) at begun ∙ ap (λ v. twin_on site (net_at p (root_number p)) v both_roots words) e ∙ root_is words section
+        t ∙ ap₂ (λ (m : Net) (one : Starts). twin_on site m u one words) at begun ∙ ap (λ v. twin_on site (net_at p (root_number p)) v both_roots words) e ∙ root_is is words section
 
     -- ---- all units
     mapped : {X : Type 0} (f : UnitTwin → X) (g : ℕ → X) → ((u : ℕ) → f (secure_twin site p q tape ticket u) ≡ g u) → (us : List ℕ) → map f (map (secure_twin site p q tape ticket) us) ≡ map g us
@@ -234,9 +216,9 @@ module _ (site : Site) (p q : PreparedModel) (worlds : AreWorlds site p q) where
     unfolding root_twin
     all_second old new root o r n = n ∙ ap₂ (λ (xs : List Run) (t : UnitTwin). xs ++ t.second ∷ []) o r
 
-    pub all_changes : (old new : List ChangeWords) (root : UnitTwin) → old ≡ map (change_at site p q tape ticket) (secure_numbers p.units) → root ≡ root_twin site p q tape ticket → new ≡ old ++ root.change ∷ []
+    pub all_changes : IsPrepared p → (old new : List ChangeWords) (root : UnitTwin) → old ≡ map (change_at site p q tape ticket) (secure_numbers p.units) → root ≡ root_twin site p q tape ticket → new ≡ old ++ root.change ∷ []
         → new ≡ changes site p q tape ticket
     unfolding root_twin
-    all_changes old new root o r n =
+    all_changes is old new root o r n =
         n ∙ ap₂ (λ (xs : List ChangeWords) (t : UnitTwin). xs ++ t.change ∷ []) o r
-        ∙ sym (ap (map (change_at site p q tape ticket)) (dealt_numbers p worlds.first) ∙ map-append (change_at site p q tape ticket) (secure_numbers p.units) (root_number p ∷ []))
+        ∙ sym (ap (map (change_at site p q tape ticket)) (dealt_numbers p is) ∙ map-append (change_at site p q tape ticket) (secure_numbers p.units) (root_number p ∷ []))

@@ -1,5 +1,5 @@
 -- A query in two worlds: a site's view in each, and where the tape is changed.
-use Rattle.std.specs.Prelude.{◌≡◌, ℕ, Bool, not, ◌==◌, List, [], length, map, filter, slice_index}
+use Rattle.std.specs.Prelude.{◌≡◌, ℕ, Bool, not, ◌==◌, List, length, map, filter, slice_index}
 use Rattle.std.specs.List.{range_with_len}
 use Rattle.pdn_base.specs.declared.site.Site.{Site}
 use Rattle.pdn_view.specs.Views.{ViewWords}
@@ -7,7 +7,7 @@ use Rattle.pdn_broker.specs.Runs.{Tape}
 use Rattle.pdn_broker.specs.Units.{is_dealt, numbers_upto}
 use Rattle.pdn_broker.specs.Prepared.{PreparedModel}
 use Rattle.pdn_broker.specs.Views.{site_view}
-use Rattle.pdn_worlds.specs.TapeChange.{section_words, changed_words, shift_tape}
+use Rattle.pdn_worlds.specs.TapeChange.{section_length_at, section_words, changed_words, shift_tape}
 use Rattle.pdn_worlds.specs.TwoWorlds.{KeepsOthers}
 
 abbrev pub differs : List ℕ → List ℕ → ℕ → Bool
@@ -41,7 +41,12 @@ pub record IsTwin (site : Site) (p q : PreparedModel) (tape : Tape) (ticket : �
   pub equal : twin.second ≡ twin.first
   pub changed : twin.changed ≡ changes site p q tape ticket
 
--- ---- what the change is, whatever the tape
+-- ---- what the worlds and the change are, whatever the tape
+
+-- all that isn't a row is the same in both worlds: the directories, and the units with their kinds, values, lengths and circuits
+pub record AreShapedAlike (p q : PreparedModel) : Type 0 where
+  pub dirs : q.dirs ≡ p.dirs
+  pub units : q.units ≡ p.units
 
 -- what the site sees in the first world on a tape, it sees in the second on the changed tape
 abbrev pub SeesTheSame : Site → PreparedModel → PreparedModel → ℕ → Type 0
@@ -54,3 +59,7 @@ GivesBack site p q ticket = (tape : Tape) (at u place : ℕ) → shift_tape site
 -- it alters only words of the query's sections
 abbrev pub KeepsTheRest : Site → PreparedModel → PreparedModel → ℕ → Type 0
 KeepsTheRest site p q ticket = (tape : Tape) (at u place : ℕ) → KeepsOthers site p q tape ticket at u place
+
+-- and each section keeps its length
+abbrev pub KeepsLengths : Site → PreparedModel → PreparedModel → ℕ → Type 0
+KeepsLengths site p q ticket = (tape : Tape) (u : ℕ) → length (changed_words site p q tape ticket u) ≡ section_length_at p u

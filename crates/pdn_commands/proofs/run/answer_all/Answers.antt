@@ -1,5 +1,6 @@
 use Rattle.std.proofs.Common.{refl, ◌∙◌}
 use Rattle.std.proofs.lemmas.Result.{err_from_is_err_and}
+use Rattle.pdn_query.specs.Answering.{query_script}
 use Rattle.pdn_query.specs.Showing.{parties_of}
 use Rattle.pdn_commands.proofs.Runs.{query_on, query_stopped, queries_done}
 use Rattle.pdn_query.proofs.Walks.{begun}
@@ -10,17 +11,17 @@ loop-i-init g c = record { leads = begun _ _; only = (refl, refl, refl) }
 
 pub loop-i-preserved : goal.loop-i-preserved
 loop-i-preserved g c = record {
-  leads = query_on (g.D.Deal.tape c.args.crew.now.deal.now) (parties_of c.args.show) c.args.schema.now c.args.queries.now c.loop-i.i c.loop-i.invariant.leads c.index-queries-i.result c.loop-i-test.true c.index-queries-i.is c.in_ok-answer.ensures.came;
+  leads = query_on (query_script (g.D.Deal.tape c.args.crew.now.deal.now) (parties_of c.args.show) c.args.schema.now) c.args.queries.now c.loop-i.i c.loop-i.invariant.leads c.index-queries-i.result c.loop-i-test.true c.index-queries-i.is c.in_ok-answer.ensures.came;
   only = let f = c.loop-i.invariant.only in let s = c.in_ok-answer.ensures.only in (s.0 ∙ f.0, s.1 ∙ f.1, s.2 ∙ f.2);
 }
 
 pub returns-in_err-answer-clause-goes : goal.returns-in_err-answer-clause-goes
 returns-in_err-answer-clause-goes g c =
     let p = err_from_is_err_and c.from_residual.result c.from_residual.ensures.1 in
-    rw (p.1, p.2) (query_stopped (g.D.Deal.tape c.args.crew.now.deal.now) (parties_of c.args.show) c.args.schema.now c.args.queries.now c.loop-i.i c.loop-i.invariant.leads c.index-queries-i.result c.loop-i-test.true c.index-queries-i.is _ c.in_err-answer.ensures.came)
+    rw (p.1, p.2) (query_stopped (query_script (g.D.Deal.tape c.args.crew.now.deal.now) (parties_of c.args.show) c.args.schema.now) c.args.queries.now c.loop-i.i c.loop-i.invariant.leads c.index-queries-i.result c.loop-i-test.true c.index-queries-i.is _ c.in_err-answer.ensures.came)
 
 pub returns-clause-goes : goal.returns-clause-goes
-returns-clause-goes g c = queries_done (g.D.Deal.tape c.args.crew.now.deal.now) (parties_of c.args.show) c.args.schema.now c.args.queries.now c.loop-i.i c.loop-i.invariant.leads c.loop-i-test.false
+returns-clause-goes g c = queries_done (query_script (g.D.Deal.tape c.args.crew.now.deal.now) (parties_of c.args.show) c.args.schema.now) c.args.queries.now c.loop-i.i c.loop-i.invariant.leads c.loop-i-test.false
 
 pub returns-in_err-answer-clause-only : goal.returns-in_err-answer-clause-only
 returns-in_err-answer-clause-only g c = let f = c.loop-i.invariant.only in let s = c.in_err-answer.ensures.only in (s.0 ∙ f.0, s.1 ∙ f.1, s.2 ∙ f.2)

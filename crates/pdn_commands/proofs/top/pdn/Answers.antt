@@ -6,7 +6,7 @@ use Rattle.pdn_commands.specs.Commands.{script}
 use Rattle.pdn_query.specs.Questions.{questions}
 use Rattle.pdn_query.specs.World.{WorldModel, RoseIn}
 use Rattle.pdn_query.proofs.DeskCalls.{follows_asked}
-use Rattle.pdn_commands.proofs.Causes.{caused, does}
+use Rattle.pdn_commands.proofs.Outcomes.{caused, does}
 use Rattle.pdn_commands.proofs.top.pdn.Goals as goal
 
 pub returns-clause-complete : goal.returns-clause-complete

@@ -1,7 +1,7 @@
 use Rattle.std.proofs.Common.{map}
 use Rattle.std.specs.String.{string_bytes}
 use Rattle.pdn_commands.specs.Commands.{script}
-use Rattle.pdn_commands.proofs.Causes.{spent_end}
+use Rattle.pdn_commands.proofs.Outcomes.{spent_end}
 use Rattle.pdn_query.proofs.Walks.{answered, not_fallen, only_both, only_same}
 use Rattle.pdn_commands.proofs.top.perform.Goals as goal
 

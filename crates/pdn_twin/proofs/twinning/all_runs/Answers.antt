@@ -1,20 +1,23 @@
-use Rattle.pdn_twin.proofs.TwinLaws.{first_runs, second_runs, secure_changes, all_first, all_second, all_changes}
-use Rattle.pdn_twin.specs.TwinRuns.{AreSecureRuns}
 use Rattle.std.proofs.Common.{◌∙◌}
+use Rattle.pdn_twin.proofs.WorldLaws.{same_units}
+use Rattle.pdn_twin.proofs.TwinLaws.{first_runs, second_runs, secure_changes, all_first, all_second, all_changes}
 use Rattle.pdn_twin.proofs.twinning.all_runs.Goals as goal
 
-pub root_twin-requires-after_bounds : goal.root_twin-requires-after_bounds
-root_twin-requires-after_bounds g c κs within =
+pub secure_twins-requires-after_bounds : goal.secure_twins-requires-after_bounds
+secure_twins-requires-after_bounds g c κs within = same_units c.args.worlds.now.site c.args.worlds.now.first c.args.worlds.now.second c.requires.alike
+
+pub root_twin-requires-clause-runs : goal.root_twin-requires-clause-runs
+root_twin-requires-clause-runs g c κs within =
     let site = c.args.worlds.now.site in
     let p = c.args.worlds.now.first in
     let q = c.args.worlds.now.second in
     let tape = g.D.Deal.tape c.args.deal.now in
-    let runs : AreSecureRuns site p q tape c.args.ticket c.in_ok-runs.runs = record {
-      first = c.in_ok-runs.ensures.first ∙ first_runs site p q c.requires.alike tape c.args.ticket _ c.in_ok-twins.ensures;
-      second = c.in_ok-runs.ensures.second ∙ second_runs site p q c.requires.alike tape c.args.ticket _ c.in_ok-twins.ensures;
-      changed = c.in_ok-runs.ensures.changed ∙ secure_changes site p q c.requires.alike tape c.args.ticket _ c.in_ok-twins.ensures;
-    } in
-    record { alike = c.requires.alike; runs = runs }
+    let same = same_units site p q c.requires.alike in
+    record {
+      first = c.in_ok-runs.ensures.first ∙ first_runs site p q same tape c.args.ticket _ c.in_ok-twins.ensures;
+      second = c.in_ok-runs.ensures.second ∙ second_runs site p q same tape c.args.ticket _ c.in_ok-twins.ensures;
+      changed = c.in_ok-runs.ensures.changed ∙ secure_changes site p q same tape c.args.ticket _ c.in_ok-twins.ensures;
+    }
 
 pub returns : goal.returns
 returns g c =
@@ -22,10 +25,10 @@ returns g c =
     let p = c.args.worlds.now.first in
     let q = c.args.worlds.now.second in
     let tape = g.D.Deal.tape c.args.deal.now in
+    let same = same_units site p q c.requires.alike in
     record {
-      first = all_first site p q c.requires.alike tape c.args.ticket _ _ _ (c.in_ok-runs.ensures.first ∙ first_runs site p q c.requires.alike tape c.args.ticket _ c.in_ok-twins.ensures) c.in_ok-root.ensures c.in_ok-push.ensures.first;
-      second = all_second site p q c.requires.alike tape c.args.ticket _ _ _ (c.in_ok-runs.ensures.second ∙ second_runs site p q c.requires.alike tape c.args.ticket _ c.in_ok-twins.ensures) c.in_ok-root.ensures
-          c.in_ok-push.ensures.second;
-      changed = all_changes site p q c.requires.alike tape c.args.ticket _ _ _ (c.in_ok-runs.ensures.changed ∙ secure_changes site p q c.requires.alike tape c.args.ticket _ c.in_ok-twins.ensures) c.in_ok-root.ensures
+      first = all_first site p q same tape c.args.ticket _ _ _ (c.in_ok-runs.ensures.first ∙ first_runs site p q same tape c.args.ticket _ c.in_ok-twins.ensures) c.in_ok-root.ensures c.in_ok-push.ensures.first;
+      second = all_second site p q same tape c.args.ticket _ _ _ (c.in_ok-runs.ensures.second ∙ second_runs site p q same tape c.args.ticket _ c.in_ok-twins.ensures) c.in_ok-root.ensures c.in_ok-push.ensures.second;
+      changed = all_changes site p q same tape c.args.ticket c.requires.alike.first _ _ _ (c.in_ok-runs.ensures.changed ∙ secure_changes site p q same tape c.args.ticket _ c.in_ok-twins.ensures) c.in_ok-root.ensures
           c.in_ok-push.ensures.changed;
     }

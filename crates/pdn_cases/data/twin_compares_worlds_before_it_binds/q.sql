@@ -1,0 +1,1 @@
+SELECT pid FROM diag ORDER BY day;

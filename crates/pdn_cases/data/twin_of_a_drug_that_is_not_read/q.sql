@@ -1,0 +1,1 @@
+SELECT d.pid FROM diag d JOIN med m ON d.pid = m.pid;

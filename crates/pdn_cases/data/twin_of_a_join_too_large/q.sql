@@ -1,0 +1,1 @@
+SELECT a.y FROM wide a JOIN wide b ON a.x = b.x;
