@@ -1,7 +1,6 @@
 //! Connections of the desk: each row of its table, and a caller's calls.
-use crate::desks::{Fails, NONE, ask, desk, schema};
+use crate::desks::{Otherwise, ask, desk, schema};
 use pdn_desk::DeskEnd;
-use pdn_desk_keeper::MemDesk;
 use std::alloc::Global;
 use std::test::Fail;
 
@@ -31,147 +30,150 @@ const COUNT: &str = "SELECT COUNT(*) FROM t WHERE c = 5;";
 const CALL: &str =
     "POST /callers/ann/queries/7 HTTP/1.1\r\ncontent-length: 35\r\n\r\nSELECT COUNT(*) FROM t WHERE c = 5;";
 
-/// A request, the status of its reply and the error that it names; the most rows of table t, the next ticket before and after, and
-/// which calls fail.
-struct Case {
-    request: &'static str,
-    status: &'static str,
-    error: &'static str,
-    rows: u32,
-    next: u64,
-    then: u64,
-    fails: Fails,
-}
-
-const fn case(request: &'static str, status: &'static str, error: &'static str) -> Case {
-    Case {
-        request,
-        status,
-        error,
-        rows: 8,
-        next: 0,
-        then: 0,
-        fails: NONE,
-    }
-}
+/// A request, what stands otherwise, the status of the reply and the error that it names, and the next ticket then.
+type Case = (&'static str, Otherwise, &'static str, &'static str, u64);
 
 const CASES: &[Case] = &[
-    case(
+    (
         "GET /callers/ann/queries/7 HTTP/1.1\r\n",
+        Otherwise::Nothing,
         "400 Bad Request",
         "request",
+        0,
     ),
-    case(
+    (
         "POST /callers/ann/queries/7 HTTP/1.1\r\ntransfer-encoding: chunked\r\n\r\n",
+        Otherwise::Nothing,
         "501 Not Implemented",
         "encoding",
+        0,
     ),
-    case(
+    (
         "POST /callers/bob/queries/1 HTTP/1.1\r\n\r\n",
+        Otherwise::Nothing,
         "404 Not Found",
         "unknown",
+        0,
     ),
-    case(
+    (
         "PUT /callers/ann/queries/1 HTTP/1.1\r\n\r\n",
+        Otherwise::Nothing,
         "405 Method Not Allowed",
         "method",
+        0,
     ),
-    case(
+    (
         "POST /callers/ann/queries/1 HTTP/1.1\r\n\r\n",
+        Otherwise::Nothing,
         "411 Length Required",
         "length",
+        0,
     ),
-    case(
+    (
         "POST /callers/ann/queries/1 HTTP/1.1\r\ncontent-length: 4097\r\n\r\n",
+        Otherwise::Nothing,
         "413 Payload Too Large",
         "long",
+        0,
     ),
-    Case {
-        fails: Fails {
-            desk: Some(1),
-            ..NONE
-        },
-        ..case(CALL, "503 Service Unavailable", "refused 10 desk")
-    },
-    case(
+    (
+        CALL,
+        Otherwise::DeskFails(1),
+        "503 Service Unavailable",
+        "refused 10 desk",
+        0,
+    ),
+    // a byte above 0x7F in a line's value
+    (
         "GET /callers/ann/queries/7 HTTP/1.1\r\na: \u{e9}\r\n\r\n",
+        Otherwise::Nothing,
         "404 Not Found",
         "unknown",
+        0,
     ),
-    Case {
-        fails: Fails {
-            desk: Some(2),
-            ..NONE
-        },
-        ..case(CALL, "503 Service Unavailable", "refused 10 desk")
-    },
-    case(
+    (
+        CALL,
+        Otherwise::DeskFails(2),
+        "503 Service Unavailable",
+        "refused 10 desk",
+        0,
+    ),
+    (
         "POST /callers/ann/queries/7 HTTP/1.1\r\ncontent-length: 22\r\n\r\nSELECT COUNT(*) FROM t",
+        Otherwise::Nothing,
         "422 Unprocessable Entity",
         "refused 4 place 22 kind 5",
+        0,
     ),
-    case(
+    (
         "POST /callers/ann/queries/7 HTTP/1.1\r\ncontent-length: 34\r\n\r\nSELECT pid FROM diag ORDER BY day;",
+        Otherwise::Nothing,
         "422 Unprocessable Entity",
         "refused 5 kind 2 day",
+        0,
     ),
-    case(
+    (
         "POST /callers/ann/queries/7 HTTP/1.1\r\ncontent-length: 22\r\n\r\nSELECT code FROM diag;",
+        Otherwise::Nothing,
         "422 Unprocessable Entity",
         "refused 6 diag.code protected",
+        0,
     ),
-    Case {
-        fails: Fails {
-            site_a: Some(1),
-            ..NONE
-        },
-        ..case(CALL, "503 Service Unavailable", "refused 10 site a")
-    },
-    Case {
-        rows: 2,
-        ..case(CALL, "422 Unprocessable Entity", "refused 8 a t rows")
-    },
-    case(
+    (
+        CALL,
+        Otherwise::SiteFails(1),
+        "503 Service Unavailable",
+        "refused 10 site a",
+        0,
+    ),
+    (
+        CALL,
+        Otherwise::Rows(2),
+        "422 Unprocessable Entity",
+        "refused 8 a t rows",
+        0,
+    ),
+    (
         "POST /callers/ann/queries/7 HTTP/1.1\r\ncontent-length: 48\r\n\r\nSELECT a.y FROM wide a JOIN wide b ON a.x = b.x;",
+        Otherwise::Nothing,
         "422 Unprocessable Entity",
         "refused 7 limit 1 unit 0",
+        0,
     ),
-    Case {
-        fails: Fails {
-            desk: Some(3),
-            ..NONE
-        },
-        ..case(CALL, "503 Service Unavailable", "refused 10 desk")
-    },
-    Case {
-        next: 1099511627776,
-        then: 1099511627776,
-        ..case(CALL, "507 Insufficient Storage", "refused 11 tickets")
-    },
-    Case {
-        then: 1,
-        fails: Fails {
-            desk: Some(4),
-            ..NONE
-        },
-        ..case(CALL, "503 Service Unavailable", "refused 10 desk")
-    },
+    (
+        CALL,
+        Otherwise::DeskFails(3),
+        "503 Service Unavailable",
+        "refused 10 desk",
+        0,
+    ),
+    (
+        CALL,
+        Otherwise::Next(1099511627776),
+        "507 Insufficient Storage",
+        "refused 11 tickets",
+        1099511627776,
+    ),
+    (
+        CALL,
+        Otherwise::DeskFails(4),
+        "503 Service Unavailable",
+        "refused 10 desk",
+        1,
+    ),
 ];
 
 #[test]
 fn each_row_of_the_table(rt: HostRuntime) -> Result<(), Fail> {
     let alloc = rt.alloc();
-    for case in CASES {
-        let kept = MemDesk::new(case.next, case.fails.desk_list(alloc)?);
-        let mut desk = desk(alloc, kept, case.fails.site_a)?;
-        let schema = schema(alloc, case.rows)?;
-        let request = case.request.as_bytes();
-        let (_, sent) = ask(&rt, alloc, &schema, &mut desk, request, case.fails.link)?;
-        let error = case.error;
+    for (request, otherwise, status, error, next) in CASES {
+        let mut desk = desk(alloc, *otherwise)?;
+        let schema = schema(alloc, otherwise.rows())?;
+        let (_, sent) = ask(&rt, alloc, &schema, &mut desk, request.as_bytes(), None)?;
         let body = format!(in alloc; "{{\"error\":\"{error}\"}}")?;
-        let wanted = reply(alloc, case.status, body.as_str())?;
+        let wanted = reply(alloc, status, body.as_str())?;
         assert_eq!(rt; sent.as_slice(), wanted.as_bytes(), "{error}");
-        assert_eq!(rt; desk.desk.next(), case.then, "{error}");
+        assert_eq!(rt; desk.desk.next(), *next, "{error}");
     }
     Ok(())
 }
@@ -180,7 +182,7 @@ fn each_row_of_the_table(rt: HostRuntime) -> Result<(), Fail> {
 fn ann_at_the_desk(rt: HostRuntime) -> Result<(), Fail> {
     let alloc = rt.alloc();
     let schema = schema(alloc, 8)?;
-    let mut desk = desk(alloc, MemDesk::new(0, Vec::new(alloc)), None)?;
+    let mut desk = desk(alloc, Otherwise::Nothing)?;
     let counted = post(alloc, 7, COUNT)?;
     let other = post(alloc, 7, "SELECT COUNT(*) FROM t;")?;
     let second = post(alloc, 8, "SELECT COUNT(*) FROM t;")?;
@@ -217,7 +219,7 @@ fn ann_at_the_desk(rt: HostRuntime) -> Result<(), Fail> {
 fn a_link_that_fails(rt: HostRuntime) -> Result<(), Fail> {
     let alloc = rt.alloc();
     let schema = schema(alloc, 8)?;
-    let mut desk = desk(alloc, MemDesk::new(0, Vec::new(alloc)), None)?;
+    let mut desk = desk(alloc, Otherwise::Nothing)?;
     // the call is kept although its reply is lost
     for (bytes, fail, wanted, size, next) in [
         ("", None, DeskEnd::Silent, 0, 0),

@@ -48,24 +48,27 @@ fn site(alloc: Global, values: &[u32], fail: Option<u64>) -> Result<MemSite, Fai
     }
 }
 
-/// Which call of each object fails, by its number from 1; none where there is no number.
+/// What of a desk stands otherwise.
 #[derive(Clone, Copy)]
-pub struct Fails {
-    pub site_a: Option<u64>,
-    pub desk: Option<u64>,
-    pub link: Option<u64>,
+pub enum Otherwise {
+    Nothing,
+    /// This call of A's keeper fails, by its number from 1.
+    SiteFails(u64),
+    /// This call of the desk's keeper fails.
+    DeskFails(u64),
+    /// A site may hold so many rows of table t.
+    Rows(u32),
+    /// The next ticket.
+    Next(u64),
 }
 
-pub const NONE: Fails = Fails {
-    site_a: None,
-    desk: None,
-    link: None,
-};
-
-impl Fails {
-    /// The list of the desk's call that fails.
-    pub fn desk_list(&self, alloc: Global) -> Result<Vec<u64>, Fail> {
-        listed(alloc, self.desk)
+impl Otherwise {
+    /// How many rows of table t a site may hold.
+    pub fn rows(&self) -> u32 {
+        match self {
+            Otherwise::Rows(rows) => *rows,
+            _ => 8,
+        }
     }
 }
 
@@ -77,13 +80,26 @@ fn listed(alloc: Global, number: Option<u64>) -> Result<Vec<u64>, Fail> {
     Ok(numbers)
 }
 
+/// A keeper of the desk that keeps nothing.
+fn keeper(alloc: Global, otherwise: Otherwise) -> Result<MemDesk, Fail> {
+    match otherwise {
+        Otherwise::DeskFails(number) => Ok(MemDesk::new(0, listed(alloc, Some(number))?)),
+        Otherwise::Next(next) if next <= 1099511627776 => Ok(MemDesk::new(next, Vec::new(alloc))),
+        _ => Ok(MemDesk::new(0, Vec::new(alloc))),
+    }
+}
+
 /// A desk that has answered nothing, over the rows 5, 7, 5 of A and 5 of B.
-pub fn desk(alloc: Global, next: MemDesk, site_a: Option<u64>) -> Result<Desk, Fail> {
+pub fn desk(alloc: Global, otherwise: Otherwise) -> Result<Desk, Fail> {
+    let fails = match otherwise {
+        Otherwise::SiteFails(number) => Some(number),
+        _ => None,
+    };
     Ok(World {
         files: MemFiles::new(Vec::new(alloc), Vec::new(alloc)),
-        site_a: site(alloc, &[5, 7, 5], site_a)?,
+        site_a: site(alloc, &[5, 7, 5], fails)?,
         site_b: site(alloc, &[5], None)?,
-        desk: next,
+        desk: keeper(alloc, otherwise)?,
         out: MemSink::new(alloc, 0, Vec::new(alloc))
             .ok()
             .ok_or("memory")?,
