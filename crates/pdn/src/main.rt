@@ -4,9 +4,10 @@
 use pdn_base::{Files, RealFiles, Sink, Status, StdSink};
 use pdn_commands::{World, pdn};
 use pdn_dealer::ChaChaDeal;
+use pdn_explain::explain;
 use pdn_startup::dealer_of;
 use pdn_store::{SqliteDesk, SqliteSite};
-use std::alloc::Global;
+use std::alloc::{AllocError, Global};
 use std::io::ErrorKind;
 use std::process::ExitCode;
 use std::rt::Env;
@@ -18,12 +19,15 @@ pdn run <sqlfile> <workers> show <view>          the same, and behind each answe
 pdn twin <a or b> <sqlfile> <folder> <workers>   what a or b sees of each query in two worlds, and the change of the tape
 pdn check <sqlfile>                              prints the schema, and each query's form, columns and segments
 pdn load <a or b> <table> <batch> <csvfile>      gives a site a batch of a table
+pdn --explain <line>                             says what a line 'refused ..' or 'fault ..' means, and what to do
 pdn --help                                       prints this
 pdn --version                                    prints the version
 
 The schema is the file net.schema, the key of the tape the file tape.key. The sites keep their rows in the files a.db
 and b.db, the desk its tickets in desk.db; each is made where there is none.
 ";
+
+const NO_REFUSAL: &str = "This is no line by which the program refuses or fails.";
 
 const VERSION: &str = "pdn 0.1.0\n";
 
@@ -44,11 +48,8 @@ fn main(rt: HostRuntime) -> ExitCode {
         // Words that are no text are refused as no words are.
         Err(_) => Vec::new(alloc),
     };
-    if let Some(text) = about(&words) {
-        return match world.out.put(text.as_bytes()) {
-            Ok(()) => ExitCode::SUCCESS,
-            Err(_) => ExitCode::FAILURE,
-        };
+    if let Some(code) = answer_alone(alloc, &words, &mut world.out) {
+        return code;
     }
     let Some(deal) = dealer_there(alloc, &mut world.files) else {
         // Where this put fails, there is nothing left to say.
@@ -72,6 +73,49 @@ fn words(rt: &(impl Env + AllocGlobal)) -> io::Result<Vec<String>> {
 fn dealer_there(alloc: Global, files: &mut impl Files) -> Option<ChaChaDeal> {
     let text = files.read(alloc, "tape.key").ok()?;
     dealer_of(&text)
+}
+
+// Answers the words that want neither key nor store.
+fn answer_alone(alloc: Global, words: &[String], out: &mut impl Sink) -> Option<ExitCode> {
+    match words {
+        [first, line @ ..] if first.as_str() == "--explain" => Some(tell(alloc, line, out)),
+        _ => about(words).map(|text| put(out, text, ExitCode::SUCCESS)),
+    }
+}
+
+// Says what a line means. The line may be one word or several.
+fn tell(alloc: Global, line: &[String], out: &mut impl Sink) -> ExitCode {
+    let Ok(line) = by_blanks(alloc, line) else {
+        return ExitCode::from(Status::Memory.code());
+    };
+    let (means, code) = match explain(line.as_str()) {
+        Some(means) => (means, ExitCode::SUCCESS),
+        None => (NO_REFUSAL, ExitCode::from(Status::Words.code())),
+    };
+    match format!(in alloc; "{means}\n") {
+        Ok(text) => put(out, text.as_str(), code),
+        Err(_) => ExitCode::from(Status::Memory.code()),
+    }
+}
+
+// Words with a blank between any two.
+fn by_blanks(alloc: Global, words: &[String]) -> Result<String, AllocError> {
+    let mut line = String::new(alloc);
+    for word in words {
+        if !line.is_empty() {
+            line.push_str(" ")?;
+        }
+        line.push_str(word.as_str())?;
+    }
+    Ok(line)
+}
+
+// Puts a text, and ends so where that is done.
+fn put(out: &mut impl Sink, text: &str, code: ExitCode) -> ExitCode {
+    match out.put(text.as_bytes()) {
+        Ok(()) => code,
+        Err(_) => ExitCode::FAILURE,
+    }
 }
 
 // What the program says of itself.

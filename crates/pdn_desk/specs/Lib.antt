@@ -1,0 +1,9 @@
+pub mod Replies
+pub mod Courses
+pub mod Requests
+pub mod Calls
+pub mod Ways
+pub mod Connections
+pub mod Starting
+pub mod Lines
+pub mod Laws
