@@ -1,5 +1,5 @@
 -- Two worlds that agree, and a query that is made ready in both.
-use Rattle.std.proofs.Common.{◌≡◌, ℕ, ◌+◌, ◌<◌, ◌-◌, ◌^◌, List, [], ◌∷◌, length, drop, get_or, arith, refl, sym, subst, ap, ◌∙◌, None, Some, Option, Result, Ok, Err, inl, inr, ◌⊎◌}
+use Rattle.std.proofs.Common.{◌≡◌, ℕ, ◌+◌, ◌<◌, ◌-◌, ◌^◌, List, [], ◌∷◌, length, drop, get_or, arith, refl, sym, subst, ap, ◌∙◌, None, Option, Result, Ok, Err, inl, inr, ◌⊎◌}
 use Rattle.std.specs.Prelude.{true, IfOk}
 use Rattle.std.specs.List.{All, slice_get}
 use Rattle.std.proofs.lemmas.List.{drop_more}
@@ -23,7 +23,7 @@ use Rattle.pdn_agree.specs.Agreement.{Union, Agree, SamePublic, other_tables}
 use Rattle.pdn_agree.specs.EqualShapes.{ShapesLaw, SameShapes}
 use Rattle.pdn_agree.specs.Spots.{IsSpot}
 use Rattle.pdn_site.proofs.SliceLaws.{all_at}
-use Rattle.pdn_broker.specs.Prepared.{PreparedModel, IsPrepared, prepared_of}
+use Rattle.pdn_broker.specs.Prepared.{PreparedModel, IsPrepared}
 use Rattle.pdn_broker.specs.Runs.{Tape}
 use Rattle.pdn_worlds.specs.TwoWorlds.{AreWorlds, SecondWorldLaw, TranscriptLaw, union_of}
 use Rattle.pdn_twin.specs.declared.twins.Worlds.{Worlds}

@@ -1,5 +1,5 @@
 -- The causes of a run, a check and a load, and what their Done comes with.
-use Rattle.std.proofs.Common.{◌≡◌, ℕ, ◌+◌, ◌<◌, ◌^◌, ◌++◌, List, [], ◌∷◌, length, None, Some, Option, Result, Ok, Err, inl, inr, ◌⊎◌, refl, sym, subst, ◌∙◌, append-nil, append_assoc}
+use Rattle.std.proofs.Common.{◌≡◌, ℕ, ◌+◌, ◌<◌, ◌^◌, ◌++◌, List, [], ◌∷◌, length, None, Some, Option, Result, Ok, Err, inl, inr, refl, sym, subst, ◌∙◌, append-nil, append_assoc}
 use Rattle.std.specs.List.{AllByRecursion}
 use Rattle.pdn_base.specs.declared.rows_err.RowsErr.{RowsErr}
 use Rattle.pdn_base.specs.declared.site.Site.{Site}
@@ -21,7 +21,7 @@ use Rattle.pdn_tree.specs.Plans.{PlanModel}
 use Rattle.pdn_desk_keeper.specs.Desks.{DeskHeld, with_ticket}
 use Rattle.pdn_query.specs.Answering.{units_over, answer_text, shown_text, answering, query_script, IsTaken, IsAnswer}
 use Rattle.pdn_query.specs.Showing.{views_on}
-use Rattle.pdn_query.specs.Questions.{Told, Unbound, Broken, Hidden, IsBound, Holds, IsSchemaIn, AreQueriesIn, AreRowsIn, Answer, New, Again, Differs, OverRows, OverPer, Batch, Gives, IsNext, after, with_desk, with_taken}
+use Rattle.pdn_query.specs.Questions.{Told, Unbound, Broken, Hidden, IsBound, AreQueriesIn, AreRowsIn, Answer, New, Again, Differs, OverRows, OverPer, Batch, Gives, IsNext, after, with_desk, with_taken}
 use Rattle.pdn_query.specs.Script.{Script, Finish, Say, or_unbound}
 use Rattle.pdn_query.specs.Walk.{Refusals, Texts}
 use Rattle.pdn_commands.specs.Causes.{AskedRun, AskedQueries, AskedCheck, AskedReports, AskedLoad, AskedTable, Inputs, IsAsked, AreWrong, Cause, IsDone, file_of}

@@ -5,8 +5,8 @@ use Rattle.pdn_base.specs.declared.status.Status.TheVariants as status
 use Rattle.pdn_base.specs.declared.status.Who.{Who}
 use Rattle.pdn_base.specs.declared.status.Who.TheVariants.{Sink}
 use Rattle.pdn_broker.specs.Runs.{Tape}
-use Rattle.pdn_query.specs.Questions.{Told, after, questions}
-use Rattle.pdn_query.specs.Script.{Script, Finish, Refuse, Say, Ask}
+use Rattle.pdn_query.specs.Questions.{Told, questions}
+use Rattle.pdn_query.specs.Script.{Script}
 use Rattle.pdn_query.specs.Walk.{Refusals, Texts, Follows, End, NoMemory, Closes, Wrote, Along}
 use Rattle.pdn_query.specs.World.{WorldModel, RoseIn}
 use Rattle.pdn_script.specs.Ways.{IsPlain}

@@ -1,12 +1,11 @@
 -- What the tape may change in a script.
-use Rattle.std.proofs.Common.{◌≡◌, ℕ, ◌+◌, List, [], ◌∷◌, refl, sym, subst, ap, ◌∙◌, None, Some, Option, Ok}
+use Rattle.std.proofs.Common.{◌≡◌, ℕ, List, [], refl, sym, subst, ap, None, Some, Option}
 use Rattle.pdn_schema.specs.Models.{SchemaModel}
 use Rattle.pdn_sql.specs.declared.query.Query.{Query}
 use Rattle.pdn_view.specs.declared.view.Party.{Party}
 use Rattle.pdn_broker.specs.Runs.{Tape}
-use Rattle.pdn_query.specs.Answering.{query_script}
 use Rattle.pdn_query.specs.Script.{Script}
-use Rattle.pdn_commands.specs.Commands.{Task, Run, Check, Twin, Load, task_of, task_script, run_script, shown, script, SameOnTapes}
+use Rattle.pdn_commands.specs.Commands.{Task, Run, Check, Twin, Load, task_of, task_script, run_script, shown, SameOnTapes}
 use Rattle.pdn_commands.specs.Running.{queries_script}
 use Rattle.pdn_commands.specs.Script.{with_inputs, with_queries}
 

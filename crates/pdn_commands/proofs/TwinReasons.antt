@@ -1,6 +1,6 @@
 -- The causes of a twin, and what its Done comes with.
-use Rattle.std.proofs.Common.{◌≡◌, ℕ, ◌+◌, ◌<◌, ◌≤◌, ◌^◌, ◌++◌, List, [], ◌∷◌, length, None, Some, Option, Result, Ok, Err, inl, inr, refl, subst}
-use Rattle.std.specs.List.{zip, AllByRecursion}
+use Rattle.std.proofs.Common.{◌≡◌, ℕ, ◌<◌, ◌^◌, ◌++◌, List, length, Some, Option, Result, Ok, Err, inl, inr, refl, subst}
+use Rattle.std.specs.List.{zip}
 use Rattle.pdn_base.specs.declared.rows_err.RowsErr.{RowsErr}
 use Rattle.pdn_base.specs.declared.site.Site.{Site}
 use Rattle.pdn_base.specs.declared.site.Site.TheVariants.{A, B}
@@ -8,23 +8,21 @@ use Rattle.pdn_base.specs.declared.status.Status.{Status}
 use Rattle.pdn_base.specs.declared.status.Status.TheVariants as status
 use Rattle.pdn_base.specs.declared.status.Who.{Who}
 use Rattle.pdn_base.specs.Operators.{Rows}
-use Rattle.pdn_schema.specs.Models.{SchemaModel, TableModel}
+use Rattle.pdn_schema.specs.Models.{SchemaModel}
 use Rattle.pdn_sql.specs.declared.query.Query.{Query}
 use Rattle.pdn_tree.specs.Plans.{PlanModel}
-use Rattle.pdn_site.specs.Models.{UnitModel}
-use Rattle.pdn_agree.specs.Agreement.{Union, other_tables}
+use Rattle.pdn_agree.specs.Agreement.{other_tables}
 use Rattle.pdn_broker.specs.Runs.{Tape}
 use Rattle.pdn_desk_keeper.specs.Desks.{DeskHeld, with_ticket}
 use Rattle.pdn_query.specs.Answering.{units_over, AllValid}
-use Rattle.pdn_query.specs.Each.{EachWith, keeping}
+use Rattle.pdn_query.specs.Each.{keeping}
 use Rattle.pdn_query.specs.Questions.{Told, Unbound, Broken, Hidden, IsBound, Holds, Keeps, IsNext, AreQueriesIn, with_desk, with_taken}
 use Rattle.pdn_query.specs.Script.{Script, or_unbound}
 use Rattle.pdn_query.specs.Walk.{Refusals, Texts}
-use Rattle.pdn_commands.specs.Causes.{Inputs, IsFirstWrong, AreWrong}
+use Rattle.pdn_commands.specs.Causes.{IsFirstWrong, AreWrong}
 use Rattle.pdn_commands.specs.Commands.{Twin, task_of}
 use Rattle.pdn_commands.specs.Outcomes.{HasCause}
-use Rattle.pdn_commands.specs.Running.{with_given, IsReached, AreLeft}
-use Rattle.pdn_commands.specs.Script.{with_inputs}
+use Rattle.pdn_commands.specs.Running.{with_given}
 use Rattle.pdn_commands.specs.TwinCauses.{AskedTwin, AskedTwins, TwinRows, TwinValid, TwinAgreed, TwinQuery, IsTwinTaken, IsTwinText, IsTwinned, FileGives, second_tables, worlds_of}
 use Rattle.pdn_commands.specs.Twinning.{TwoWorlds, other_site, rows_file, finding, importing_file, judging_worlds, twin_planned, twin_query, twins_script, twin_script}
 use Rattle.pdn_commands.proofs.Refusing.{in_inputs, in_read, in_each, in_files, in_judged, in_compared, in_large, in_given, in_numbered, from_first, all_given}

@@ -1,5 +1,5 @@
 -- What a twin's parts hand on: tables, and a query that is ready in both worlds.
-use Rattle.std.specs.Prelude.{◌≡◌, ◌<◌, ◌-◌, ◌^◌, ℕ, List, length}
+use Rattle.std.specs.Prelude.{◌≡◌, ◌<◌, ◌-◌, ◌^◌, List, length}
 use Rattle.std.specs.List.{All}
 use Rattle.pdn_base.specs.Operators.{Rows}
 use Rattle.pdn_schema.specs.Models.{SchemaModel}

@@ -1,5 +1,5 @@
 -- When a twin is refused, and what its Done comes with.
-use Rattle.std.specs.Prelude.{◌≡◌, ◌⊎◌, ◌+◌, ◌^◌, IfSome, ℕ, List, [], ◌∷◌, ◌++◌, length, None, Some, Option, Ok, Err}
+use Rattle.std.specs.Prelude.{◌≡◌, ◌⊎◌, ◌+◌, ◌^◌, IfSome, ℕ, List, ◌∷◌, ◌++◌, length, None, Some, Option, Ok, Err}
 use Rattle.std.specs.List.{AllByRecursion, zip}
 use Rattle.pdn_base.specs.declared.rows_err.RowsErr.{RowsErr}
 use Rattle.pdn_base.specs.declared.site.Site.{Site}

@@ -1,5 +1,5 @@
 -- What `twin` asks and says: of each query a site's view in two worlds, and where the tape is changed between them.
-use Rattle.std.specs.Prelude.{◌≡◌, ℕ, ◌+◌, List, [], ◌∷◌, ◌++◌, Option, Some, None, codes, decimal}
+use Rattle.std.specs.Prelude.{◌≡◌, ℕ, List, [], ◌∷◌, ◌++◌, Option, Some, None, codes, decimal}
 use Rattle.std.specs.List.{flat_map, zip}
 use Rattle.pdn_base.specs.Operators.{Rows}
 use Rattle.pdn_base.specs.Texts.{line, site_text}
@@ -22,7 +22,7 @@ use Rattle.pdn_query.specs.Answering.{query_name, judging, units_over, or_large,
 use Rattle.pdn_query.specs.Each.{each, keeping}
 use Rattle.pdn_query.specs.Comparing.{comparing}
 use Rattle.pdn_query.specs.Questions.{File}
-use Rattle.pdn_query.specs.Script.{Script, Finish, Say, Ask, binding}
+use Rattle.pdn_query.specs.Script.{Script, Say, Ask, binding}
 use Rattle.pdn_commands.specs.Running.{numbered}
 use Rattle.pdn_commands.specs.Script.{with_inputs, with_queries, importing}
 

@@ -1,4 +1,4 @@
-use Rattle.std.proofs.Common.{◌≡◌, ℕ, List, Option, length}
+use Rattle.std.proofs.Common.{◌≡◌, Option, length}
 use Rattle.std.specs.Prelude.{IfSome}
 use Rattle.std.specs.List.{All, zip}
 use Rattle.pdn_base.specs.Bounds.{IsShort}
