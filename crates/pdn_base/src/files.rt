@@ -33,8 +33,11 @@ pub trait Files {
     /// Failed only where the count of faults rose.
     fn read(&mut self, alloc: Global, name: &str) -> Result<Vec<u8>, FileErr>
         ensures size { IfOk result (λ bytes. length bytes.items ≤ 536870912) }
-        ensures found { IfSome (held self.old) (λ map. IfOk result (λ bytes. map name.now ≡ Some bytes.items)) }
-        ensures absent { IfSome (held self.old) (λ map. IsErrOf result FileErr.Absent → map name.now ≡ None) }
+        ensures found { IfSome (held self.old) (λ map.
+            IfOk result (λ bytes. map name.now ≡ Some bytes.items)) }
+        ensures absent { IfSome (held self.old) (λ map. IsErrOf result FileErr.Absent
+            → map name.now ≡ None) }
         ensures same { held self.new ≡ held self.old }
-        ensures cause { HasCause (faults self.old) (faults self.new) (IsErrOf result FileErr.Failed) };
+        ensures cause { HasCause (faults self.old) (faults self.new)
+            (IsErrOf result FileErr.Failed) };
 }

@@ -36,7 +36,11 @@ impl MemFiles {
     /// Files by their names, of which no two are the same, and the numbers of the reads that are to fail.
     pub fn new(files: Vec<(String, Vec<u8>)>, fail: Vec<u64>) -> MemFiles
         requires { All (λ p. length p.1.items ≤ 536870912) files.items }
-        ensures { result ≡ record { files = map (λ p. named (string_bytes p.0) p.1.items) files.items; calls = no_calls fail.items } }
+        ensures { result ≡ record {
+          files = map (λ p. named (string_bytes p.0) p.1.items)
+              files.items;
+          calls = no_calls fail.items;
+        } }
     {
         MemFiles {
             files,
@@ -48,7 +52,8 @@ impl MemFiles {
 // What the first file of this name holds.
 fn content<'a>(files: &'a [(String, Vec<u8>)], name: &str) -> Option<&'a [u8]>
     requires { All (λ p. length p.1.items ≤ 536870912) files.now }
-    ensures held { option_copied result ≡ content_of (map (λ p. named (string_bytes p.0) p.1.items) files.now) name.now }
+    ensures held { option_copied result ≡ content_of
+        (map (λ p. named (string_bytes p.0) p.1.items) files.now) name.now }
     ensures small { IfSome result (λ bytes. length bytes.now ≤ 536870912) }
 {
     match find(files, name) {
@@ -59,7 +64,8 @@ fn content<'a>(files: &'a [(String, Vec<u8>)], name: &str) -> Option<&'a [u8]>
 
 fn find<'a>(files: &'a [(String, Vec<u8>)], name: &str) -> Option<&'a (String, Vec<u8>)>
     requires { All (λ p. length p.1.items ≤ 536870912) files.now }
-    ensures first { option_copied result ≡ find (λ p. bytes_eq (string_bytes p.0) name.now) files.now }
+    ensures first { option_copied result ≡ find (λ p. bytes_eq (string_bytes p.0) name.now)
+        files.now }
     ensures small { IfSome result (λ p. length p.now.1.items ≤ 536870912) }
 {
     files.iter().find(|file| file.0.as_str() == name)
@@ -81,10 +87,12 @@ impl Files for MemFiles {
 
     fn read(&mut self, alloc: Global, name: &str) -> Result<Vec<u8>, FileErr>
         ensures size { IfOk result (λ bytes. length bytes.items ≤ 536870912) }
-        ensures found { IfOk result (λ bytes. content_of self.old.files name.now ≡ Some bytes.items) }
+        ensures found { IfOk result (λ bytes. content_of self.old.files name.now
+            ≡ Some bytes.items) }
         ensures absent { IsErrOf result FileErr.Absent → content_of self.old.files name.now ≡ None }
         ensures same { self.new.files ≡ self.old.files }
-        ensures cause { HasCause self.old.calls.faults self.new.calls.faults (IsErrOf result FileErr.Failed) }
+        ensures cause { HasCause self.old.calls.faults self.new.calls.faults
+            (IsErrOf result FileErr.Failed) }
         ensures counted { self.new.calls ≡ called self.old.calls }
         ensures failed { IsErrOf result FileErr.Failed ↔ IsTrue (fails_next self.old.calls) }
     {

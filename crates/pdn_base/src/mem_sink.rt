@@ -34,7 +34,8 @@ impl MemSink {
 
     /// An empty sink with this room, and the numbers of the calls that are to fail.
     pub fn new(alloc: Global, room: usize, fail: Vec<u64>) -> Result<MemSink, Memory>
-        ensures { IfOk result (λ sink. sink ≡ record { bytes = []; room = room; calls = no_calls fail.items }) }
+        ensures { IfOk result (λ sink. sink
+            ≡ record { bytes = []; room = room; calls = no_calls fail.items }) }
     {
         Ok(MemSink {
             bytes: Vec::with_capacity(alloc, room)?,
@@ -61,7 +62,8 @@ impl Sink for MemSink {
 
     fn put(&mut self, bytes: &[u8]) -> Result<(), SinkErr>
         ensures ok { OnOk result (self.new.bytes ≡ self.old.bytes ++ bytes.now) }
-        ensures failed { OnErr result (AppendsFront (Some self.old.bytes) (Some self.new.bytes) bytes.now) }
+        ensures failed { OnErr result (AppendsFront (Some self.old.bytes) (Some self.new.bytes)
+            bytes.now) }
         ensures cause { HasCause self.old.calls.faults self.new.calls.faults (IsErr result) }
         ensures taken { self.new ≡ after_put self.old bytes.now }
         ensures whole { IsOk result ↔ IsTrue (takes_all self.old (length bytes.now)) }

@@ -21,6 +21,7 @@ pub trait Sink {
     /// bytes is then put.
     fn put(&mut self, bytes: &[u8]) -> Result<(), SinkErr>
         ensures ok { OnOk result (Appends (written self.old) (written self.new) bytes.now) }
-        ensures failed { OnErr result (AppendsFront (written self.old) (written self.new) bytes.now) }
+        ensures failed { OnErr result (AppendsFront (written self.old) (written self.new)
+            bytes.now) }
         ensures cause { HasCause (faults self.old) (faults self.new) (IsErr result) };
 }

@@ -178,7 +178,8 @@ fn tell_runs<D: Watch>(watch: &D, dealt: &[Dealt], runs: &[UnitRun])
 /// The root's run, which is the last.
 fn last_run(runs: &[UnitRun]) -> &UnitRun
     requires { 0 < length runs.now }
-    ensures { (before : List Run) (root : Run) → runs.now ≡ before ++ root ∷ [] → result.now ≡ root }
+    ensures { (before : List Run) (root : Run) → runs.now ≡ before ++ root ∷ []
+        → result.now ≡ root }
 {
     &runs[runs.len() - 1]
 }

@@ -20,7 +20,8 @@ pub(crate) fn opened_rows(
 ) -> Result<Rows, Memory>
     requires same { length b.now ≡ length a.now }
     requires count { length (xor_lists a.now b.now) ≡ (widths kinds.now + 1) * words_for len }
-    requires kinds { RowsAreOf kinds.now (valid_rows (xor_lists a.now b.now) (list_from 0 kinds.now len)) }
+    requires kinds { RowsAreOf kinds.now
+        (valid_rows (xor_lists a.now b.now) (list_from 0 kinds.now len)) }
     ensures { IfOk result (λ rows.
         rows ≡ listed order.now (valid_rows (xor_lists a.now b.now) (list_from 0 kinds.now len))) }
 {

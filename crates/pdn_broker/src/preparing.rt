@@ -240,7 +240,8 @@ fn ends_of(
     units: &Units,
     engines: &BothEngines,
 ) -> Result<Ends, Memory>
-    requires { AreUnits schema.now engines.now.a.tables engines.now.b.tables plan.now.root units.now }
+    requires { AreUnits schema.now engines.now.a.tables engines.now.b.tables plan.now.root
+        units.now }
     ensures columns { IfOk result (λ ends. ends.columns.items ≡ kinds schema.now plan.now.root) }
     ensures order { IfOk result (λ ends. ends.order.items ≡ top_order plan.now.root) }
     ensures own { IfOk result (λ ends. ends.own ≡ record {

@@ -65,7 +65,8 @@ fn secure_run(
 ) -> Result<UnitRun, Memory>
     requires in_range { unit < length prepared.now.units }
     requires secure { is_secure (unit_at prepared.now unit).kind ≡ true }
-    requires section { length section ≡ section_length (net_or (unit_at prepared.now unit).circuit) }
+    requires section { length section ≡ section_length
+        (net_or (unit_at prepared.now unit).circuit) }
     ensures { IfOk result (λ run. run ≡ secure_run_on prepared.now unit section) }
 {
     let own = prepared.secure_words(alloc, unit)?;

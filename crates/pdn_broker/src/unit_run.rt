@@ -44,7 +44,8 @@ pub fn run_dealt(
 ) -> Result<UnitRun, Memory>
     requires takes { Takes circuit.now own given }
     requires section { length section ≡ section_length circuit.now }
-    ensures { IfOk result (λ run. run ≡ run_on circuit.now (layout_of circuit.now section) own given) }
+    ensures { IfOk result (λ run. run ≡ run_on circuit.now (layout_of circuit.now section) own
+        given) }
 {
     let (part_a, part_b) = section.split(alloc, circuit)?;
     let schedule = Schedule::new(alloc, circuit)?;

@@ -119,7 +119,8 @@ impl Builder {
 
     /// The next input word of a site.
     pub fn input(&mut self, site: Site) -> Result<u32, BuildErr>
-        ensures made { Builds self.old self.new (one (Gate.Input site (input_count site self.old.gates))) result }
+        ensures made { Builds self.old self.new
+            (one (Gate.Input site (input_count site self.old.gates))) result }
         ensures there { GivesGate self.new result }
     {
         let index = self.inputs(site);
@@ -137,7 +138,8 @@ impl Builder {
 
     /// The next given word.
     pub fn given(&mut self) -> Result<u32, BuildErr>
-        ensures made { Builds self.old self.new (one (Gate.Given (given_count self.old.gates))) result }
+        ensures made { Builds self.old self.new (one (Gate.Given (given_count self.old.gates)))
+            result }
         ensures there { GivesGate self.new result }
     {
         let index = self.tally.given;
@@ -198,7 +200,11 @@ impl Builder {
     pub fn finish(self, outputs: Vec<u32>, released: bool) -> Circuit
         requires few { length outputs.items ≤ 16777216 }
         requires there { All (λ output. output < length self.gates) outputs.items }
-        ensures { result ≡ record { gates = self.gates; outputs = outputs.items; released = released } }
+        ensures { result ≡ record {
+          gates = self.gates;
+          outputs = outputs.items;
+          released = released;
+        } }
     {
         Circuit {
             gates: self.gates,

@@ -54,7 +54,8 @@ impl Run {
     pub fn push(&self, alloc: Global, words: &mut Vec<Word>) -> Result<(), Memory>
         requires a { self.now.a + self.now.len ≤ length words.old.items }
         requires b { self.now.b + self.now.len ≤ length words.old.items }
-        ensures { OnOk result (words.new.items ≡ words.old.items ++ run_words self.now words.old.items) }
+        ensures { OnOk result (words.new.items ≡ words.old.items
+            ++ run_words self.now words.old.items) }
     {
         let mut joined = vec![in alloc; Word::from_u64(0); self.len]?;
         let x = &words[self.a..self.a + self.len];

@@ -123,7 +123,11 @@ impl Section {
 }
 
 fn part(alloc: Global, r: &[Word], triples: Vec<Triple>, masks: &[Word]) -> Result<Part, Memory>
-    ensures { IfOk result (λ p. p ≡ record { r = r.now; triples = triples.items; masks = masks.now }) }
+    ensures { IfOk result (λ p. p ≡ record {
+      r = r.now;
+      triples = triples.items;
+      masks = masks.now;
+    }) }
 {
     Ok(Part {
         r: Vec::from_slice(alloc, r)?,

@@ -62,7 +62,8 @@ impl Half {
         part: Part,
     ) -> Result<Half, Memory>
         requires { Fits circuit.now (half_words site own.items given.items part) }
-        ensures { IfOk result (λ h. h ≡ begun circuit.now (half_words site own.items given.items part)) }
+        ensures { IfOk result (λ h. h ≡ begun circuit.now
+            (half_words site own.items given.items part)) }
     {
         let schedule = Schedule::new(alloc, circuit)?;
         Half::on(alloc, &schedule, site, own, given, part)

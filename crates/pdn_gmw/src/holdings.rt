@@ -99,7 +99,8 @@ impl Holdings {
     fn input_share(&self, from: Site, index: usize, at: usize) -> Word
         requires own { IsOwn self.now.site from index (length self.now.own) }
         requires r { at < length self.now.r }
-        ensures { result ≡ half_input self.now.site from (slice_index self.now.own index) (slice_index self.now.r at) }
+        ensures { result ≡ half_input self.now.site from (slice_index self.now.own index)
+            (slice_index self.now.r at) }
     {
         match (self.site, from) {
             (Site::A, Site::A) | (Site::B, Site::B) => self.own[index].xor(&self.r[at]),

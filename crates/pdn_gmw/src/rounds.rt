@@ -19,7 +19,8 @@ pub fn write_frame(ands: &[LayerAnd], views: &[GateView], shares: &[Word], frame
     requires there { AndsThere ands.now (length views.now) (length shares.now) }
     requires room { 2 * length ands.now ≤ length frame.old }
     ensures long { length frame.new ≡ length frame.old }
-    ensures words { take (2 * length ands.now) frame.new ≡ flat_map (λ s. masked_words (and_sends views.now shares.now s)) ands.now }
+    ensures words { take (2 * length ands.now) frame.new
+        ≡ flat_map (λ s. masked_words (and_sends views.now shares.now s)) ands.now }
 {
     for k in 0..ands.len() {
         let masked = sends(&ands[k], views, shares);
@@ -93,7 +94,8 @@ fn product_share(site: Site, view: &GateView, d: &Word, e: &Word) -> Word
 /// Computes the shares of these Xor, Spread and Move gates, each of which stands after what it reads.
 pub fn share_rest(circuit: &Circuit, rest: &[u32], shares: &mut [Word])
     requires long { length shares.old ≡ length circuit.now.gates }
-    requires there { (m : ℕ) → m < length rest.now → slice_index rest.now m < length circuit.now.gates }
+    requires there { (m : ℕ) → m < length rest.now
+        → slice_index rest.now m < length circuit.now.gates }
     ensures long { length shares.new ≡ length shares.old }
     ensures shares { shares.new ≡ fold (linear_settled circuit.now.gates) shares.old rest.now }
 {

@@ -49,7 +49,8 @@ impl UnitRun {
 pub fn run_pair(alloc: Global, a: Half, b: Half) -> Result<UnitRun, Memory>
     requires { ArePair a b }
     ensures shares { IfOk result (λ run. run ≡ run_of a b) }
-    ensures opens { IfOk result (λ run. xor_lists run.a.outputs run.b.outputs ≡ output_words (inputs_of a b) a.net) }
+    ensures opens { IfOk result (λ run. xor_lists run.a.outputs run.b.outputs
+        ≡ output_words (inputs_of a b) a.net) }
 {
     let (mut half_a, mut half_b) = (a, b);
     let mut from_a = Vec::new(alloc);

@@ -11,7 +11,8 @@ use pdn_schema::{Column, count_of};
 /// The first public column with a value that stands in too many rows, and its least such value.
 pub(crate) fn over_per(columns: &[Column], rows: &[Row]) -> Option<(u32, Value)>
     requires { length columns.now ≤ 8 }
-    ensures { MatchOption result (KeepEach columns.now rows.now) (λ over. IsOverPer columns.now rows.now over.0 over.1) }
+    ensures { MatchOption result (KeepEach columns.now rows.now)
+        (λ over. IsOverPer columns.now rows.now over.0 over.1) }
 {
     for (i, column) in columns.iter().enumerate() {
         if let Some(value) = over_in(column, i as u32, rows) {
@@ -23,7 +24,8 @@ pub(crate) fn over_per(columns: &[Column], rows: &[Row]) -> Option<(u32, Value)>
 
 /// The least value that stands in more rows than a public column allows.
 fn over_in(column: &Column, at: u32, rows: &[Row]) -> Option<Value>
-    ensures { MatchOption result (KeepsPer rows.now at column.now) (λ v. (column.now.mark ≡ labels.Public) × IsLeastOver at column.now.per rows.now v) }
+    ensures { MatchOption result (KeepsPer rows.now at column.now)
+        (λ v. (column.now.mark ≡ labels.Public) × IsLeastOver at column.now.per rows.now v) }
 {
     if column.mark == Label::Public {
         least_over(rows, at, column.per)
@@ -34,7 +36,8 @@ fn over_in(column: &Column, at: u32, rows: &[Row]) -> Option<Value>
 
 /// The least value that stands in a column of more rows than these.
 fn least_over(rows: &[Row], column: u32, per: u32) -> Option<Value>
-    ensures { MatchOption result ((number : ℕ) → standing column number rows.now ≤ per) (IsLeastOver column per rows.now) }
+    ensures { MatchOption result ((number : ℕ) → standing column number rows.now ≤ per)
+        (IsLeastOver column per rows.now) }
 {
     let mut least = None;
     for row in rows {

@@ -25,7 +25,8 @@ use std::alloc::Global;
 pub fn import_csv(alloc: Global, schema: &Schema, table: u32, bytes: &[u8]) -> Result<Rows, CsvErr>
     requires in_range { table < length schema.now.tables }
     requires short { IsShort bytes.now }
-    ensures rows { MatchResult result (λ rows. imported (table_of schema.now table).columns (records_of default_config (strip_bom bytes.now)) ≡ Ok rows)
+    ensures rows { MatchResult result (λ rows. imported (table_of schema.now table).columns
+        (records_of default_config (strip_bom bytes.now)) ≡ Ok rows)
         (OrMemory (imported (table_of schema.now table).columns (records_of default_config (strip_bom bytes.now)))) }
     ensures kinds { IfOk result (λ rows. All (HasKinds (table_of schema.now table).columns) rows) }
     ensures few { IfOk result (λ rows. IsShort rows) }
@@ -38,7 +39,8 @@ pub fn import_csv(alloc: Global, schema: &Schema, table: u32, bytes: &[u8]) -> R
 fn rows_of(alloc: Global, columns: &[Column], records: &[ByteRecord]) -> Result<Rows, CsvErr>
     requires columns_few { length columns.now ≤ 8 }
     requires short { length records.now < 2 ^ 32 }
-    ensures rows { MatchResult result (λ rows. imported columns.now (map fields_of records.now) ≡ Ok rows)
+    ensures rows { MatchResult result (λ rows. imported columns.now (map fields_of records.now)
+        ≡ Ok rows)
         (OrMemory (imported columns.now (map fields_of records.now))) }
     ensures kinds { IfOk result (λ rows. All (HasKinds columns.now) rows) }
     ensures few { IfOk result (λ rows. length rows + 1 ≤ length records.now) }
@@ -60,7 +62,8 @@ fn rows_of(alloc: Global, columns: &[Column], records: &[ByteRecord]) -> Result<
 fn rows_below(alloc: Global, columns: &[Column], records: &[ByteRecord]) -> Result<Rows, CsvErr>
     requires columns_few { length columns.now ≤ 8 }
     requires short { length records.now + 1 < 2 ^ 32 }
-    ensures rows { MatchResult result (λ rows. rows_after columns.now 1 (map fields_of records.now) ≡ Ok rows)
+    ensures rows { MatchResult result (λ rows. rows_after columns.now 1 (map fields_of records.now)
+        ≡ Ok rows)
         (OrMemory (rows_after columns.now 1 (map fields_of records.now))) }
     ensures kinds { IfOk result (λ rows. All (HasKinds columns.now) rows) }
     ensures few { IfOk result (λ rows. length rows ≤ length records.now) }

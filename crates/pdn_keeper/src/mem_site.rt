@@ -85,7 +85,8 @@ fn followed_by(alloc: Global, rows: Vec<Row>, more: &[Row]) -> Result<Vec<Row>, 
 fn fit(alloc: Global, table: &Table, kept: Vec<Row>, rows: &[Row]) -> Result<(), AddErr>
     requires columns_few { length table.now.columns ≤ 8 }
     requires kept_few { IsShort kept.items }
-    ensures taken { IsTaken table.now kept.items rows.now (result_map_both (λ _. New) (λ e. e) result) }
+    ensures taken { IsTaken table.now kept.items rows.now
+        (result_map_both (λ _. New) (λ e. e) result) }
     ensures no_fault { IsErrOf result AddErr.Failed → ⊥ }
 {
     let count = kept.len();
@@ -125,8 +126,10 @@ impl MemSite {
     ) -> Result<Added, AddErr>
         requires columns_few { length table.now.columns ≤ 8 }
         requires rows_few { table.now.rows ≤ 256 }
-        ensures answer { IsTaken table.now (kept_rows table.now.name self.old.batches) rows.now result }
-        ensures stands { Stands (Some self.old.batches) (Some self.new.batches) (batch_held table.now.name number rows.now) result }
+        ensures answer { IsTaken table.now (kept_rows table.now.name self.old.batches) rows.now
+            result }
+        ensures stands { Stands (Some self.old.batches) (Some self.new.batches)
+            (batch_held table.now.name number rows.now) result }
         ensures same { self.new.calls ≡ self.old.calls }
         ensures no_fault { IsErrOf result AddErr.Failed → ⊥ }
     {
@@ -149,7 +152,8 @@ impl MemSite {
         requires columns_few { length table.now.columns ≤ 8 }
         requires rows_few { table.now.rows ≤ 256 }
         ensures answer { IsAnswer table.now self.old.batches number rows.now result }
-        ensures stands { Stands (Some self.old.batches) (Some self.new.batches) (batch_held table.now.name number rows.now) result }
+        ensures stands { Stands (Some self.old.batches) (Some self.new.batches)
+            (batch_held table.now.name number rows.now) result }
         ensures same { self.new.calls ≡ self.old.calls }
         ensures no_fault { IsErrOf result AddErr.Failed → ⊥ }
     {
@@ -176,9 +180,11 @@ impl SiteKeeper for MemSite {
     fn rows(&mut self, alloc: Global, schema: &Schema, table: u32) -> Result<Rows, KeepErr>
         requires in_range { table < length schema.now.tables }
         ensures size { IfOk result (λ rows. IsShort rows) }
-        ensures kept { IfOk result (λ rows. rows ≡ kept_rows (table_of schema.now table).name self.old.batches) }
+        ensures kept { IfOk result (λ rows. rows
+            ≡ kept_rows (table_of schema.now table).name self.old.batches) }
         ensures same { self.new.batches ≡ self.old.batches }
-        ensures cause { HasCause self.old.calls.faults self.new.calls.faults (IsErrOf result KeepErr.Failed) }
+        ensures cause { HasCause self.old.calls.faults self.new.calls.faults
+            (IsErrOf result KeepErr.Failed) }
         ensures counted { self.new.calls ≡ called self.old.calls }
         ensures failed { IsErrOf result KeepErr.Failed ↔ IsTrue (fails_next self.old.calls) }
     {
@@ -198,13 +204,16 @@ impl SiteKeeper for MemSite {
         rows: &Rows,
     ) -> Result<Added, AddErr>
         requires in_range { table < length schema.now.tables }
-        ensures answer { IsAnswer (table_of schema.now table) self.old.batches batch rows.now result }
+        ensures answer { IsAnswer (table_of schema.now table) self.old.batches batch rows.now
+            result }
         ensures column { IfErr result (NamesColumn (table_of schema.now table).columns) }
-        ensures stands { Stands (Some self.old.batches) (Some self.new.batches) (batch_held (table_of schema.now table).name batch rows.now) result }
+        ensures stands { Stands (Some self.old.batches) (Some self.new.batches)
+            (batch_held (table_of schema.now table).name batch rows.now) result }
         ensures valid { OnOk result (
             All (HasKinds (table_of schema.now table).columns) rows.now → IsValid (table_of schema.now table) (kept_rows (table_of schema.now table).name self.old.batches)
             → IsValid (table_of schema.now table) (kept_rows (table_of schema.now table).name self.new.batches)) }
-        ensures cause { HasCause self.old.calls.faults self.new.calls.faults (IsErrOf result AddErr.Failed) }
+        ensures cause { HasCause self.old.calls.faults self.new.calls.faults
+            (IsErrOf result AddErr.Failed) }
         ensures counted { self.new.calls ≡ called self.old.calls }
         ensures failed { IsErrOf result AddErr.Failed ↔ IsTrue (fails_next self.old.calls) }
     {

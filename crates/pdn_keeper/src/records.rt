@@ -10,7 +10,8 @@ use std::alloc::Global;
 /// All records of a text, whatever their numbers of fields, the first included. A reader over bytes has no fault of its
 /// own, so what it refuses is want of memory.
 pub(crate) fn records(alloc: Global, text: &[u8]) -> Result<Vec<ByteRecord>, Memory>
-    ensures all { IfOk result (λ v. map fields_of v.items ≡ records default_config (strip_bom text.now)) }
+    ensures all { IfOk result (λ v. map fields_of v.items
+        ≡ records default_config (strip_bom text.now)) }
     ensures few { IfOk result (λ v. length v.items ≤ length text.now + 1) }
 {
     let reader = ReaderBuilder::new()

@@ -91,9 +91,11 @@ pub trait SiteKeeper {
     fn rows(&mut self, alloc: Global, schema: &Schema, table: u32) -> Result<Rows, KeepErr>
         requires in_range { table < length schema.now.tables }
         ensures size { IfOk result (λ rows. IsShort rows) }
-        ensures kept { IfSome (batches self.old) (λ held. IfOk result (λ rows. rows ≡ kept_rows (table_of schema.now table).name held)) }
+        ensures kept { IfSome (batches self.old)
+            (λ held. IfOk result (λ rows. rows ≡ kept_rows (table_of schema.now table).name held)) }
         ensures same { batches self.new ≡ batches self.old }
-        ensures cause { HasCause (faults self.old) (faults self.new) (IsErrOf result KeepErr.Failed) };
+        ensures cause { HasCause (faults self.old) (faults self.new)
+            (IsErrOf result KeepErr.Failed) };
 
     /// Takes a batch of a table. The number decides first: where it is kept, the answer is Again or Differs, as the kept
     /// rows are these or others. Else the batch must leave the table within its bounds, OverRows before OverPer, and is
@@ -107,11 +109,14 @@ pub trait SiteKeeper {
         rows: &Rows,
     ) -> Result<Added, AddErr>
         requires in_range { table < length schema.now.tables }
-        ensures answer { IfSome (batches self.old) (λ held. IsAnswer (table_of schema.now table) held batch rows.now result) }
+        ensures answer { IfSome (batches self.old)
+            (λ held. IsAnswer (table_of schema.now table) held batch rows.now result) }
         ensures column { IfErr result (NamesColumn (table_of schema.now table).columns) }
-        ensures stands { Stands (batches self.old) (batches self.new) (batch_held (table_of schema.now table).name batch rows.now) result }
+        ensures stands { Stands (batches self.old) (batches self.new)
+            (batch_held (table_of schema.now table).name batch rows.now) result }
         ensures valid { IfSome (batches self.old) (λ held. OnOk result (
             All (HasKinds (table_of schema.now table).columns) rows.now → IsValid (table_of schema.now table) (kept_rows (table_of schema.now table).name held)
             → IfSome (batches self.new) (λ now. IsValid (table_of schema.now table) (kept_rows (table_of schema.now table).name now)))) }
-        ensures cause { HasCause (faults self.old) (faults self.new) (IsErrOf result AddErr.Failed) };
+        ensures cause { HasCause (faults self.old) (faults self.new)
+            (IsErrOf result AddErr.Failed) };
 }

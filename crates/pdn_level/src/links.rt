@@ -114,7 +114,8 @@ pub fn links(alloc: Global, left: &[bool], right: &[bool], on: &Cond) -> Result<
             .iter()
             .filter_map(
                 |clause: &Clause| -> Option<Link>
-                    ensures { result ≡ link_of left.entry.now right.entry.now (plain_clause clause.now) }
+                    ensures { result ≡ link_of left.entry.now right.entry.now
+                        (plain_clause clause.now) }
                 { link_of(left, right, plain_clause(clause.any.as_slice())) },
             )
             .collect(alloc)?,
@@ -141,7 +142,8 @@ pub fn is_linked(links: &[Link], width: usize, column: usize) -> bool
 
 /// The first link that names a column of the joined row.
 pub fn link_at(links: &[Link], width: usize, column: usize) -> Link
-    ensures { result ≡ unwrap_or (find (names_column width column) links.now) (record { left = 0; right = 0 }) }
+    ensures { result ≡ unwrap_or (find (names_column width column) links.now)
+        (record { left = 0; right = 0 }) }
 {
     match links.split_first() {
         None => Link { left: 0, right: 0 },

@@ -39,7 +39,8 @@ fn public_columns(alloc: Global, columns: &[Column]) -> Result<Vec<bool>, Memory
 }
 
 pub fn scan_slices(alloc: Global, schema: &Schema, table: u32) -> Result<Vec<bool>, Memory>
-    ensures { IfOk result (λ out. out.items ≡ map (λ c. is_public c.mark) (table_columns schema.now table)) }
+    ensures { IfOk result (λ out. out.items ≡ map (λ c. is_public c.mark)
+        (table_columns schema.now table)) }
 {
     match schema.tables.get(table as usize) {
         None => Ok(Vec::new(alloc)),
@@ -103,7 +104,8 @@ pub fn partition_slices(
         (0..slices.len())
             .map(
                 |column: usize| -> bool
-                    ensures { result ≡ (has partition.entry.now column && slice_at slices.entry.now column) }
+                    ensures { result
+                        ≡ (has partition.entry.now column && slice_at slices.entry.now column) }
                 { has(partition, column) && slice_at(slices, column) },
             )
             .collect(alloc)?,

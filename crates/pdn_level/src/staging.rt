@@ -79,7 +79,10 @@ fn kept(slices: Vec<bool>, below: Level) -> Grades
 
 /// Any other node above what is read.
 fn over(slices: Vec<bool>, secure_below: bool) -> Grades
-    ensures { result ≡ record { slices = slices.items; level = sliced_if slices.items secure_below } }
+    ensures { result ≡ record {
+      slices = slices.items;
+      level = sliced_if slices.items secure_below;
+    } }
 {
     let level = sliced_if(slices.as_slice(), secure_below);
     Grades { slices, level }
@@ -247,7 +250,12 @@ fn segment(
     slices: &[bool],
     path: &[u8],
 ) -> Result<Vec<Segment>, Memory>
-    ensures { IfOk result (λ out. out.items ≡ record { path = path.now; leaves = leaves_of schema.now top.now (first_slice slices.now) } ∷ []) }
+    ensures { IfOk result (λ out. out.items
+        ≡ record {
+          path = path.now;
+          leaves = leaves_of schema.now top.now
+              (first_slice slices.now);
+        } ∷ []) }
 {
     let path = Vec::from_slice(alloc, path)?;
     let leaves = trace(alloc, schema, top, first_slice(slices))?;
@@ -310,7 +318,8 @@ pub fn segments(
 /// whatever the tables hold, the rows of its top are, as a bag, those of its slices, one for each value of its leaves' columns. Its one error is Memory.
 pub fn levels(alloc: Global, schema: &Schema, plan: &Plan) -> Result<Staged, Memory>
     ensures segments { IfOk result (λ staged. staged ≡ segments_of schema.now plan.now.root []) }
-    ensures sound { IfOk result (λ staged. AllByRecursion (IsSound schema.now plan.now.root) staged) }
+    ensures sound { IfOk result (λ staged. AllByRecursion (IsSound schema.now plan.now.root)
+        staged) }
 {
     Ok(Staged {
         segments: segments(alloc, schema, &plan.root, &[])?,

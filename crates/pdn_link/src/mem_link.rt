@@ -95,7 +95,8 @@ impl Link for MemLink {
         ensures bound { ReadsAtMost result room.new }
         ensures bytes { ReadConsumes (Some self.old.left) (Some self.new.left) result room.new }
         ensures same { self.new.out.bytes ≡ self.old.out.bytes }
-        ensures cause { HasCause self.old.out.calls.faults self.new.out.calls.faults (IsErr result) }
+        ensures cause { HasCause self.old.out.calls.faults self.new.out.calls.faults
+            (IsErr result) }
         ensures exact { result ≡ received self.old (length room.old) }
         ensures taken { self.new ≡ after_recv self.old (length room.old) }
     {
@@ -112,7 +113,8 @@ impl Link for MemLink {
         ensures failed { OnErr result
             (AppendsFront (Some self.old.out.bytes) (Some self.new.out.bytes) bytes.now) }
         ensures same { self.new.left ≡ self.old.left }
-        ensures cause { HasCause self.old.out.calls.faults self.new.out.calls.faults (IsErr result) }
+        ensures cause { HasCause self.old.out.calls.faults self.new.out.calls.faults
+            (IsErr result) }
         ensures taken { self.new.out ≡ after_put self.old.out bytes.now }
         ensures whole { IsOk result ↔ IsTrue (takes_all self.old.out (length bytes.now)) }
     {

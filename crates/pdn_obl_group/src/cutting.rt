@@ -86,7 +86,8 @@ fn column_planes(
     width: u32,
 ) -> Result<Vec<u32>, BuildErr>
     requires few { width ≤ 64 }
-    ensures made { TriesList b.old b.new (each (λ bit. bit_plane (bit_at number bit)) (range_with_len 0 width)) result }
+    ensures made { TriesList b.old b.new
+        (each (λ bit. bit_plane (bit_at number bit)) (range_with_len 0 width)) result }
     ensures there { GivesGates b.new result }
     ensures count { IfOk result (λ planes. length planes.items ≡ width) }
 {

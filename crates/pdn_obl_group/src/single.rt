@@ -35,7 +35,12 @@ pub(crate) fn one_row_list(
     gates: &[u32],
 ) -> Result<Padded, BuildErr>
     requires { length gates.now ≡ widths kinds.now }
-    ensures list { IfOk result (λ out. out ≡ record { len = 1; valid = valid ∷ []; kinds = kinds.now; planes = one_row gates.now }) }
+    ensures list { IfOk result (λ out. out ≡ record {
+      len = 1;
+      valid = valid ∷ [];
+      kinds = kinds.now;
+      planes = one_row gates.now;
+    }) }
     ensures memory { IfErr result (λ err. err ≡ BuildErr.Memory) }
 {
     let planes = one_row(alloc, gates)?;

@@ -100,7 +100,8 @@ pub fn compare(
     requires there { IsThere b.old list.now }
     requires fits { KeysFit (length list.now.kinds) partition.now order.now }
     requires few { length list.now.kinds + length order.now < 2 ^ 32 }
-    ensures made { MatchResult result (Compares b.old b.new list.now partition.now order.now) (Stops b.old b.new (compared_gates list.now order.now (length b.old.gates))) }
+    ensures made { MatchResult result (Compares b.old b.new list.now partition.now order.now)
+        (Stops b.old b.new (compared_gates list.now order.now (length b.old.gates))) }
 {
     let count = list.kinds().len() as u32;
     let downs = down_columns(alloc, order)?;

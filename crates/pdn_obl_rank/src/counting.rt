@@ -40,7 +40,12 @@ fn lanes_of(
 ) -> Result<Lanes, AllocError>
     requires partition { All (λ place. place < length row.now) compared.now.partition }
     requires key { All (λ place. place < length row.now) compared.now.key }
-    ensures { IfOk result (λ lanes. lanes ≡ record { valid = valid; part = planes_up (row_columns row.now compared.now.partition); key = planes_down (row_columns row.now compared.now.key) }) }
+    ensures { IfOk result (λ lanes. lanes ≡ record {
+      valid = valid;
+      part = planes_up (row_columns row.now
+          compared.now.partition);
+      key = planes_down (row_columns row.now compared.now.key);
+    }) }
 {
     let part = row_columns(alloc, row, compared.partition())?;
     let key = row_columns(alloc, row, compared.key())?;
@@ -101,7 +106,8 @@ pub fn count_rows(
     requires rows { len ≤ 64 * length compared.now.valid }
     requires counters { PlanesThere (length b.old.gates) none.items }
     requires count { length none.items ≡ length compared.now.valid }
-    ensures made { TriesItems b.old b.new (in_turn (row_gates compared.now) 0 len none.items) result }
+    ensures made { TriesItems b.old b.new (in_turn (row_gates compared.now) 0 len none.items)
+        result }
     ensures there { IfOk result (λ counters. PlanesThere (length b.new.gates) counters.items) }
     ensures count { IfOk result (λ counters. length counters.items ≡ length compared.now.valid) }
 {

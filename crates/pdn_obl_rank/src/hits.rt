@@ -92,7 +92,8 @@ impl Lanes {
 fn word_part(alloc: Global, compared: &Compared, word: usize) -> Result<Vec<u32>, AllocError>
     requires word { ColumnsReach word compared.now.columns }
     requires places { All (λ place. place < length compared.now.columns) compared.now.partition }
-    ensures { IfOk result (λ planes. planes.items ≡ planes_up (word_columns compared.now.columns word compared.now.partition)) }
+    ensures { IfOk result (λ planes. planes.items
+        ≡ planes_up (word_columns compared.now.columns word compared.now.partition)) }
 {
     let numbers = word_columns(alloc, compared.columns(), compared.partition(), word)?;
     planes_up(alloc, numbers.as_slice())
@@ -102,7 +103,8 @@ fn word_part(alloc: Global, compared: &Compared, word: usize) -> Result<Vec<u32>
 fn word_key(alloc: Global, compared: &Compared, word: usize) -> Result<Vec<u32>, AllocError>
     requires word { ColumnsReach word compared.now.columns }
     requires places { All (λ place. place < length compared.now.columns) compared.now.key }
-    ensures { IfOk result (λ planes. planes.items ≡ planes_down (word_columns compared.now.columns word compared.now.key)) }
+    ensures { IfOk result (λ planes. planes.items
+        ≡ planes_down (word_columns compared.now.columns word compared.now.key)) }
 {
     let numbers = word_columns(alloc, compared.columns(), compared.key(), word)?;
     planes_down(alloc, numbers.as_slice())
@@ -120,7 +122,9 @@ fn same_gate(
     requires word { word < length compared.now.valid }
     requires part { GatesThere (length b.old.gates) part.now }
     requires wide { length part.now ≡ columns_width compared.now.columns compared.now.partition }
-    ensures made { Builds b.old b.new (equal_gates part.now (planes_up (word_columns compared.now.columns word compared.now.partition))) result }
+    ensures made { Builds b.old b.new
+        (equal_gates part.now
+        (planes_up (word_columns compared.now.columns word compared.now.partition))) result }
     ensures there { GivesGate b.new result }
 {
     let planes = word_part(alloc, compared, word)?;
@@ -141,7 +145,9 @@ fn before_gate(
     requires ties { ties < length b.old.gates }
     requires key { GatesThere (length b.old.gates) key.now }
     requires wide { length key.now ≡ columns_width compared.now.columns compared.now.key }
-    ensures made { Builds b.old b.new (less_gates ties key.now (planes_down (word_columns compared.now.columns word compared.now.key))) result }
+    ensures made { Builds b.old b.new
+        (less_gates ties key.now
+        (planes_down (word_columns compared.now.columns word compared.now.key))) result }
     ensures there { GivesGate b.new result }
 {
     let planes = word_key(alloc, compared, word)?;
@@ -160,7 +166,8 @@ fn hit(
     requires there { RankedThere (length b.old.gates) compared.now }
     requires word { word < length compared.now.valid }
     requires lanes { LanesThere (length b.old.gates) compared.now lanes.now }
-    ensures made { Tries b.old b.new (hit_gates compared.now lanes.now.valid lanes.now.part lanes.now.key row word) result }
+    ensures made { Tries b.old b.new (hit_gates compared.now lanes.now.valid lanes.now.part
+        lanes.now.key row word) result }
     ensures there { GivesGate b.new result }
 {
     let same = same_gate(alloc, b, compared, lanes.part(), word)?;
@@ -184,7 +191,8 @@ fn against(
     requires word { word < length compared.now.valid }
     requires lanes { LanesThere (length b.old.gates) compared.now lanes.now }
     requires counter { GatesThere (length b.old.gates) counter.now }
-    ensures made { Tries b.old b.new (against_gates compared.now lanes.now.valid lanes.now.part lanes.now.key row word counter.now) result }
+    ensures made { Tries b.old b.new (against_gates compared.now lanes.now.valid lanes.now.part
+        lanes.now.key row word counter.now) result }
     ensures there { IfOk result (λ counter. GatesThere (length b.new.gates) counter) }
 {
     let hit = hit(alloc, b, compared, lanes, row, word)?;
@@ -206,7 +214,8 @@ fn against_word(
     requires lanes { LanesThere (length b.old.gates) compared.now lanes.now }
     requires counters { PlanesThere (length b.old.gates) counters.now }
     requires count { length counters.now ≡ length compared.now.valid }
-    ensures made { Tries b.old b.new (against_gates compared.now lanes.now.valid lanes.now.part lanes.now.key row word (slice_index_or counters.now word [])) result }
+    ensures made { Tries b.old b.new (against_gates compared.now lanes.now.valid lanes.now.part
+        lanes.now.key row word (slice_index_or counters.now word [])) result }
     ensures there { IfOk result (λ counter. GatesThere (length b.new.gates) counter) }
 {
     against(
@@ -233,7 +242,9 @@ pub fn against_words(
     requires lanes { LanesThere (length b.old.gates) compared.now lanes.now }
     requires counters { PlanesThere (length b.old.gates) counters.now }
     requires count { length counters.now ≡ length compared.now.valid }
-    ensures made { TriesItems b.old b.new (each_word [] (against_gates compared.now lanes.now.valid lanes.now.part lanes.now.key row) counters.now) result }
+    ensures made { TriesItems b.old b.new
+        (each_word [] (against_gates compared.now lanes.now.valid lanes.now.part lanes.now.key row)
+        counters.now) result }
     ensures there { IfOk result (λ counters. PlanesThere (length b.new.gates) counters.items) }
 {
     let mut more = Vec::new(alloc);

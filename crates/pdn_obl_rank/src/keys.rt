@@ -26,7 +26,8 @@ pub fn sort_key(alloc: Global, order: &[Key], columns: u32) -> Result<Vec<Key>, 
 
 /// A column that the order does not name.
 fn push_remaining(keys: &mut Vec<Key>, order: &[Key], column: u32) -> Result<(), AllocError>
-    ensures { OnOk result (keys.new.items ≡ keys.old.items ++ map ascending (one_if (not (is_named order.now column)) column)) }
+    ensures { OnOk result (keys.new.items ≡ keys.old.items
+        ++ map ascending (one_if (not (is_named order.now column)) column)) }
 {
     if !is_named(order, column) {
         keys.push(Key {
@@ -50,7 +51,9 @@ pub fn down_columns(alloc: Global, order: &[Key]) -> Result<Vec<u32>, AllocError
 
 /// A key's column, where it descends and is new.
 fn push_down(downs: &mut Vec<u32>, key: &Key) -> Result<(), AllocError>
-    ensures { OnOk result (downs.new.items ≡ downs.old.items ++ one_if (key.now.down && not (list_any (nat_eq key.now.column) downs.old.items)) key.now.column) }
+    ensures { OnOk result (downs.new.items ≡ downs.old.items
+        ++ one_if (key.now.down && not
+        (list_any (nat_eq key.now.column) downs.old.items)) key.now.column) }
 {
     if key.down && !is_used(downs.as_slice(), key.column) {
         downs.push(key.column)?;
@@ -93,7 +96,8 @@ pub fn places(
 
 fn place_of(downs: &[u32], key: &Key, columns: u32) -> u32
     requires few { columns + length downs.now < 2 ^ 32 }
-    ensures { result ≡ cond key.now.down (columns + place_among key.now.column downs.now) key.now.column }
+    ensures { result ≡ cond key.now.down (columns + place_among key.now.column downs.now)
+        key.now.column }
 {
     if key.down {
         columns + place_among(key.column, downs) as u32

@@ -68,7 +68,8 @@ fn bit_of(bits: &[u32], bit: usize) -> u32
 
 /// The planes of a column of counts.
 fn count_column(alloc: Global, ints: &[Number], bits: usize) -> Result<Vec<Plane>, BuildErr>
-    ensures gives { IfOk result (λ planes. planes.items ≡ map (λ bit. map (λ number. slice_index number bit) ints.now) (range_with_len 0 bits)) }
+    ensures gives { IfOk result (λ planes. planes.items
+        ≡ map (λ bit. map (λ number. slice_index number bit) ints.now) (range_with_len 0 bits)) }
     ensures memory { IfErr result (λ err. err ≡ BuildErr.Memory) }
 {
     let mut planes = Vec::new(alloc);

@@ -81,7 +81,8 @@ fn spread_place(
     requires few { length columns.now < 2 ^ 32 }
     requires there { ColumnsThere (length b.old.gates) columns.now }
     requires row { ColumnsReach (row / 64) columns.now }
-    ensures made { Tries b.old b.new (spread_column (list_any (nat_eq place) used.now) (slice_index_or columns.now place []) row) result }
+    ensures made { Tries b.old b.new (spread_column (list_any (nat_eq place) used.now)
+        (slice_index_or columns.now place []) row) result }
     ensures there { IfOk result (λ lanes. GatesThere (length b.new.gates) lanes) }
 {
     let spread = is_used(used, place as u32);

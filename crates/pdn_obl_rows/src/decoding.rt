@@ -35,8 +35,10 @@ fn row_at(
 ) -> Result<Row, Memory>
     requires count { length words.now ≡ (widths kinds.now + 1) * step }
     requires row { row / 64 < step }
-    requires kinds { RowIsOf kinds.now (cells_at words.now row kinds.now (planes_from step step (widths kinds.now))) }
-    ensures { IfOk result (λ cells. cells ≡ cells_at words.now row kinds.now (planes_from step step (widths kinds.now))) }
+    requires kinds { RowIsOf kinds.now
+        (cells_at words.now row kinds.now (planes_from step step (widths kinds.now))) }
+    ensures { IfOk result (λ cells. cells ≡ cells_at words.now row kinds.now
+        (planes_from step step (widths kinds.now))) }
 {
     let mut values = Vec::new(alloc);
     let mut plane = 1;

@@ -21,8 +21,10 @@ pub fn encode(alloc: Global, rows: &Rows, kinds: &[Kind], len: u32) -> Result<Ve
     requires few { length rows.now ≤ len }
     requires kinds { RowsAreOf kinds.now rows.now }
     ensures words { IfOk result (λ words. words.items ≡ encoded rows.now kinds.now len) }
-    ensures count { IfOk result (λ words. length words.items ≡ (widths kinds.now + 1) * words_for len) }
-    ensures back { IfOk result (λ words. valid_rows words.items (list_from 0 kinds.now len) ≡ rows.now) }
+    ensures count { IfOk result (λ words. length words.items
+        ≡ (widths kinds.now + 1) * words_for len) }
+    ensures back { IfOk result (λ words. valid_rows words.items (list_from 0 kinds.now len)
+        ≡ rows.now) }
 {
     let mut words = Vec::with_capacity(alloc, word_count(kinds, len)?)?;
     push_plane(&mut words, rows, &Lanes::Valid, len)?;
@@ -52,7 +54,8 @@ fn push_column(
     len: u32,
 ) -> Result<(), Memory>
     requires { width ≤ 64 }
-    ensures { OnOk result (words.new.items ≡ words.old.items ++ column_words rows.now len column width) }
+    ensures { OnOk result (words.new.items ≡ words.old.items
+        ++ column_words rows.now len column width) }
 {
     for bit in 0..width {
         push_plane(words, rows, &Lanes::Bit { column, bit }, len)?;
@@ -62,7 +65,8 @@ fn push_column(
 
 fn push_plane(words: &mut Vec<Word>, rows: &Rows, lanes: &Lanes, len: u32) -> Result<(), Memory>
     requires { LanesFit lanes.now }
-    ensures { OnOk result (words.new.items ≡ words.old.items ++ plane_words (lanes_of rows.now lanes.now) len) }
+    ensures { OnOk result (words.new.items ≡ words.old.items
+        ++ plane_words (lanes_of rows.now lanes.now) len) }
 {
     for j in 0..words_for(len) {
         words.push(plane_word(rows, lanes, 64 * j))?;

@@ -41,7 +41,9 @@ fn filter_words(
 ) -> Result<Vec<u32>, BuildErr>
     requires there { IsThere b.old list.now }
     requires fits { CondFits list.now.kinds clauses.now }
-    ensures made { TriesList b.old b.new (each (filter_word list.now clauses.now) (range_with_len 0 (length list.now.valid))) result }
+    ensures made { TriesList b.old b.new
+        (each (filter_word list.now clauses.now)
+        (range_with_len 0 (length list.now.valid))) result }
     ensures there { GivesGates b.new result }
 {
     let mut words = Vec::new(alloc);

@@ -64,8 +64,18 @@ impl Plane {
 impl Padded {
     /// A list of these parts.
     pub fn of(len: u32, valid: Vec<u32>, kinds: Vec<Kind>, planes: Vec<Plane>) -> Padded
-        requires { IsShaped (record { len = len; valid = valid.items; kinds = kinds.items; planes = planes.items }) }
-        ensures { result ≡ record { len = len; valid = valid.items; kinds = kinds.items; planes = planes.items } }
+        requires { IsShaped (record {
+          len = len;
+          valid = valid.items;
+          kinds = kinds.items;
+          planes = planes.items;
+        }) }
+        ensures { result ≡ record {
+          len = len;
+          valid = valid.items;
+          kinds = kinds.items;
+          planes = planes.items;
+        } }
     {
         Padded {
             len,

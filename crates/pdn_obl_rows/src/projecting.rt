@@ -35,7 +35,8 @@ fn chosen_kinds(alloc: Global, kinds: &[Kind], columns: &[u32]) -> Result<Vec<Ki
 
 fn chosen_planes(alloc: Global, list: &Padded, columns: &[u32]) -> Result<Vec<Plane>, Memory>
     requires { AllByRecursion (λ column. column < length list.now.kinds) columns.now }
-    ensures { IfOk result (λ chosen. chosen.items ≡ flat_map (λ column. column_planes list.now.kinds column list.now.planes) columns.now) }
+    ensures { IfOk result (λ chosen. chosen.items
+        ≡ flat_map (λ column. column_planes list.now.kinds column list.now.planes) columns.now) }
 {
     let mut chosen = Vec::new(alloc);
     for k in 0..columns.len() {

@@ -43,7 +43,8 @@ fn numbered_at(
 ) -> Result<Row, Memory>
     requires within { at < length rows.now }
     requires short { IsShort rows.now }
-    ensures { IfOk result (λ row. row ≡ numbered_row partition.now order.now rows.now (take at rows.now) (slice_index_or rows.now at [])) }
+    ensures { IfOk result (λ row. row ≡ numbered_row partition.now order.now rows.now
+        (take at rows.now) (slice_index_or rows.now at [])) }
 {
     let place = place_at(rows, at, partition, order);
     with_number(rows[at].copy(alloc)?, place)
@@ -52,7 +53,8 @@ fn numbered_at(
 fn place_at(rows: &[Row], at: usize, partition: &[u32], order: &[Key]) -> u32
     requires within { at < length rows.now }
     requires short { IsShort rows.now }
-    ensures { result ≡ place_of partition.now order.now rows.now (take at rows.now) (slice_index_or rows.now at []) }
+    ensures { result ≡ place_of partition.now order.now rows.now (take at rows.now)
+        (slice_index_or rows.now at []) }
 {
     1 + rows_before(rows, at, partition, order) as u32
 }
@@ -60,7 +62,9 @@ fn place_at(rows: &[Row], at: usize, partition: &[u32], order: &[Key]) -> u32
 /// How many rows come before one of them in its partition, earlier equal ones included.
 fn rows_before(rows: &[Row], at: usize, partition: &[u32], order: &[Key]) -> usize
     requires within { at < length rows.now }
-    ensures sum { let row = slice_index_or rows.now at [] in result ≡ count_by (before_in partition.now order.now row) rows.now + times same_row row (take at rows.now) }
+    ensures sum { let row = slice_index_or rows.now at [] in
+        result ≡ count_by (before_in partition.now order.now
+        row) rows.now + times same_row row (take at rows.now) }
     ensures bound { result < length rows.now }
 {
     let row = &rows[at];

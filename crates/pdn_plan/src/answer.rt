@@ -59,7 +59,13 @@ fn shown_as(alloc: Global, scope: &[Seen], what: &What, name: &Text) -> Result<T
 }
 
 fn out_column(alloc: Global, scope: &[Seen], label: Label, item: &Item) -> Result<OutColumn, Memory>
-    ensures { IfOk result (λ c. c ≡ record { name = output_name item.now; source = shown_as scope.now item.now.what (output_name item.now); kind = what_kind scope.now item.now.what; label = label }) }
+    ensures { IfOk result (λ c. c ≡ record {
+      name = output_name item.now;
+      source = shown_as scope.now item.now.what (output_name
+          item.now);
+      kind = what_kind scope.now item.now.what;
+      label = label;
+    }) }
 {
     let output = output_name(alloc, item)?;
     let source = shown_as(alloc, scope, &item.what, &output)?;
@@ -104,7 +110,8 @@ pub fn answer_columns(
     root: &Node,
     items: &[Item],
 ) -> Result<Vec<OutColumn>, Memory>
-    ensures { IfOk result (λ out. out.items ≡ out_columns scope.now (labels schema.now root.now) 0 items.now) }
+    ensures { IfOk result (λ out. out.items ≡ out_columns scope.now (labels schema.now root.now) 0
+        items.now) }
 {
     let labels = labels_of(alloc, schema, root)?;
     out_columns(alloc, scope, labels.as_slice(), 0, items)
@@ -118,7 +125,8 @@ fn copy_name(alloc: Global, name: &ColumnName) -> Result<ColumnName, Memory>
 
 /// Stops at the first column that isn't public.
 pub fn released(alloc: Global, columns: &[OutColumn]) -> Result<(), PlanErr>
-    ensures { MatchResult result (λ _. forbidden columns.now ≡ None) (Forbids (forbidden columns.now)) }
+    ensures { MatchResult result (λ _. forbidden columns.now ≡ None)
+        (Forbids (forbidden columns.now)) }
 {
     match columns.split_first() {
         None => Ok(()),
@@ -159,7 +167,8 @@ fn keys_after(
     before: Vec<u32>,
     order: &[OrderName],
 ) -> Result<Vec<Key>, Memory>
-    ensures { IfOk result (λ out. out.items ≡ firsts (λ k. k.column) before.items (map (order_key outputs.now) order.now)) }
+    ensures { IfOk result (λ out. out.items ≡ firsts (λ k. k.column) before.items
+        (map (order_key outputs.now) order.now)) }
 {
     match order.split_first() {
         None => Ok(Vec::new(alloc)),

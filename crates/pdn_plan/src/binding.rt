@@ -63,7 +63,11 @@ fn named_refusal(
     earlier: &[Earlier],
     named: &Named,
 ) -> Result<Option<Refusal>, Memory>
-    ensures { IfOk result (λ r. r ≡ or_else (refuse_if (is_some_of named.now.block.order || is_some named.now.block.limit) 7 named.now.name.text) (or_else (refuse_if (is_some (relation schema.now earlier.now named.now.name.text)) 3 named.now.name.text) (repeat_refusal [] (map output_name named.now.block.items)))) }
+    ensures { IfOk result (λ r. r
+        ≡ or_else (refuse_if (is_some_of named.now.block.order || is_some named.now.block.limit) 7
+        named.now.name.text)
+        (or_else (refuse_if (is_some (relation schema.now earlier.now named.now.name.text)) 3
+        named.now.name.text) (repeat_refusal [] (map output_name named.now.block.items)))) }
 {
     let listed = kind_seven(alloc, named)?;
     if listed.is_some() {
@@ -103,7 +107,11 @@ fn kept_block(
     bound: &[Bound],
     named: &Named,
 ) -> Result<Earlier, Memory>
-    ensures { IfOk result (λ e. e ≡ kept_as (record { name = named.now.name.text; gives = block_gives scope.now bound.now named.now.block })) }
+    ensures { IfOk result (λ e. e
+        ≡ kept_as (record {
+          name = named.now.name.text;
+          gives = block_gives scope.now bound.now named.now.block;
+        })) }
 {
     let name = named.name.text.copy(alloc)?;
     let gives = kept_relation(alloc, scope, bound, &named.block)?;
@@ -116,7 +124,12 @@ fn bind_block(
     earlier: &[Earlier],
     named: &Named,
 ) -> Result<Earlier, PlanErr>
-    ensures { MatchResult result (λ e. (with_refusal schema.now earlier.now named.now ≡ None) × (e ≡ kept_as (record { name = named.now.name.text; gives = block_relation schema.now earlier.now named.now.block }))) (Tells (with_refusal schema.now earlier.now named.now)) }
+    ensures { MatchResult result (λ e. (with_refusal schema.now earlier.now named.now ≡ None)
+        × (e ≡ kept_as (record {
+          name = named.now.name.text;
+          gives = block_relation schema.now earlier.now named.now.block;
+        })))
+        (Tells (with_refusal schema.now earlier.now named.now)) }
 {
     let sources = named.block.sources.as_slice();
     let scope = scope_of(alloc, schema, earlier, sources)?;
@@ -148,7 +161,9 @@ fn bind_with(
     with: &[Named],
 ) -> Result<Vec<Earlier>, PlanErr>
     requires { AreKept earlier.items }
-    ensures { MatchResult result (λ es. (with_refusals schema.now earlier.items with.now ≡ None) × (es.items ≡ all_kept (bound_with schema.now earlier.items with.now))) (Tells (with_refusals schema.now earlier.items with.now)) }
+    ensures { MatchResult result (λ es. (with_refusals schema.now earlier.items with.now ≡ None)
+        × (es.items ≡ all_kept (bound_with schema.now earlier.items with.now)))
+        (Tells (with_refusals schema.now earlier.items with.now)) }
 {
     match with.split_first() {
         None => Ok(earlier),
@@ -208,7 +223,9 @@ fn sized_tree(
     requires scope { scope.now ≡ scope_of schema.now earlier.now main.now.sources }
     requires bound { bound.now ≡ bounds schema.now earlier.now [] main.now.sources }
     requires passes { main_refusal schema.now earlier.now main.now ≡ None }
-    ensures { MatchResult result (λ n. (main_refusals schema.now earlier.now main.now ≡ None) × (n ≡ main_tree schema.now earlier.now main.now)) (Tells (main_refusals schema.now earlier.now main.now)) }
+    ensures { MatchResult result (λ n. (main_refusals schema.now earlier.now main.now ≡ None)
+        × (n ≡ main_tree schema.now earlier.now main.now))
+        (Tells (main_refusals schema.now earlier.now main.now)) }
 {
     let tree = topped(alloc, scope, bound, main)?;
     let size = size_refusal(alloc, &tree)?;
@@ -227,7 +244,9 @@ fn bind_main(
     main: &Block,
 ) -> Result<Node, PlanErr>
     requires scope { scope.now ≡ scope_of schema.now earlier.now main.now.sources }
-    ensures { MatchResult result (λ n. (main_refusals schema.now earlier.now main.now ≡ None) × (n ≡ main_tree schema.now earlier.now main.now)) (Tells (main_refusals schema.now earlier.now main.now)) }
+    ensures { MatchResult result (λ n. (main_refusals schema.now earlier.now main.now ≡ None)
+        × (n ≡ main_tree schema.now earlier.now main.now))
+        (Tells (main_refusals schema.now earlier.now main.now)) }
 {
     let bound = bounds(alloc, schema, earlier, main.sources.as_slice())?;
     let refusal = main_refusal(alloc, schema, earlier, scope, bound.as_slice(), main)?;
@@ -240,7 +259,9 @@ fn bind_main(
 fn released_plan(alloc: Global, root: Node, columns: Vec<OutColumn>) -> Result<Plan, PlanErr>
     requires top { is_top root ≡ true }
     requires one { tops root ≡ 1 }
-    ensures { MatchResult result (λ p. (forbidden columns.items ≡ None) × (p ≡ record { root = root; columns = columns.items })) (Forbids (forbidden columns.items)) }
+    ensures { MatchResult result (λ p. (forbidden columns.items ≡ None)
+        × (p ≡ record { root = root; columns = columns.items }))
+        (Forbids (forbidden columns.items)) }
 {
     released(alloc, columns.as_slice())?;
     Ok(Plan { root, columns })
@@ -255,7 +276,8 @@ fn released_root(
 ) -> Result<Plan, PlanErr>
     requires passes { refusal schema.now query.now ≡ None }
     requires root { tree ≡ root schema.now query.now }
-    requires scope { scope.now ≡ scope_of schema.now (bound_with schema.now [] query.now.with) query.now.main.sources }
+    requires scope { scope.now ≡ scope_of schema.now (bound_with schema.now [] query.now.with)
+        query.now.main.sources }
     ensures { BindGives schema.now query.now result }
 {
     let items = query.main.items.as_slice();

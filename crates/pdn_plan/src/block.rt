@@ -31,7 +31,9 @@ fn rest_of(alloc: Global, scope: &[Seen], bounds: &[Bound], block: &Block) -> Re
 }
 
 fn joined(alloc: Global, scope: &[Seen], bounds: &[Bound], block: &Block) -> Result<Node, Memory>
-    ensures { IfOk result (λ n. n ≡ sources_node (split (has (named scope.now bounds.now block.now)) 0 (placed scope.now block.now.filter) bounds.now)) }
+    ensures { IfOk result (λ n. n ≡ sources_node
+        (split (has (named scope.now bounds.now block.now)) 0 (placed scope.now block.now.filter)
+        bounds.now)) }
 {
     let needed = named_columns(alloc, scope, bounds, block)?;
     let asked = placed(alloc, scope, block.filter.as_slice())?;
@@ -68,7 +70,9 @@ fn items_of(
     step: &Step,
     items: &[Item],
 ) -> Result<Vec<u32>, Memory>
-    ensures { IfOk result (λ out. out.items ≡ items_at (λ c. place_in (step_columns kept.now step.now) (place scope.now c)) (length (step_columns kept.now step.now)) items.now) }
+    ensures { IfOk result (λ out. out.items
+        ≡ items_at (λ c. place_in (step_columns kept.now step.now) (place scope.now c)) (length
+        (step_columns kept.now step.now)) items.now) }
 {
     let columns = step_columns(alloc, kept, step)?;
     items_at(alloc, scope, columns.as_slice(), items)
@@ -109,7 +113,8 @@ pub fn what_kind(scope: &[Seen], what: &What) -> Kind
 }
 
 fn given_by(alloc: Global, scope: &[Seen], items: &[Item]) -> Result<Vec<Given>, Memory>
-    ensures { IfOk result (λ out. out.items ≡ map (λ i. record { name = output_name i; kind = what_kind scope.now i.what }) items.now) }
+    ensures { IfOk result (λ out. out.items
+        ≡ map (λ i. record { name = output_name i; kind = what_kind scope.now i.what }) items.now) }
 {
     let mut out = Vec::new(alloc);
     for item in items {

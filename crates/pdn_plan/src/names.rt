@@ -192,7 +192,8 @@ fn clashes(scope: &[Seen], cmp: &SqlCmp) -> bool
 }
 
 fn clash_refusal(alloc: Global, scope: &[Seen], cmp: &SqlCmp) -> Result<Option<Refusal>, Memory>
-    ensures { IfOk result (λ r. r ≡ refuse_if (clashes scope.now cmp.now) 4 (col_text cmp.now.left.col)) }
+    ensures { IfOk result (λ r. r ≡ refuse_if (clashes scope.now cmp.now) 4
+        (col_text cmp.now.left.col)) }
 {
     let text = col_text(alloc, &cmp.left.col)?;
     refuse_if(alloc, clashes(scope, cmp), 4, &text)

@@ -168,7 +168,8 @@ fn loose_item(
     item: &Item,
 ) -> Result<Option<Refusal>, Memory>
     requires { mentioned.now ≡ map (place scope.now) keys.now }
-    ensures { IfOk result (λ r. r ≡ refuse_if (is_loose scope.now keys.now item.now.what) 6 (output_name item.now)) }
+    ensures { IfOk result (λ r. r ≡ refuse_if (is_loose scope.now keys.now item.now.what) 6
+        (output_name item.now)) }
 {
     let cause = is_loose(scope, keys, mentioned, &item.what)?;
     let name = output_name(alloc, item)?;
@@ -183,7 +184,9 @@ fn loose_items(
     items: &[Item],
 ) -> Result<Option<Refusal>, Memory>
     requires { mentioned.now ≡ map (place scope.now) keys.now }
-    ensures { IfOk result (λ r. r ≡ first_of (λ i. refuse_if (is_loose scope.now keys.now i.what) 6 (output_name i)) items.now) }
+    ensures { IfOk result (λ r. r
+        ≡ first_of (λ i. refuse_if (is_loose scope.now keys.now i.what) 6
+        (output_name i)) items.now) }
 {
     match items.split_first() {
         None => Ok(None),
@@ -230,7 +233,9 @@ fn after_names(
     block: &Block,
     joins: bool,
 ) -> Result<Option<Refusal>, Memory>
-    ensures { IfOk result (λ r. r ≡ first (loose_refusal (is_grouped block.now) scope.now block.now ∷ refuse_if (is_counted block.now && joins) 5 [] ∷ refuse_if (is_wide scope.now bounds.now block.now) 9 [] ∷ [])) }
+    ensures { IfOk result (λ r. r ≡ first (loose_refusal (is_grouped block.now) scope.now block.now
+        ∷ refuse_if (is_counted block.now && joins) 5 [] ∷ refuse_if (is_wide scope.now bounds.now
+        block.now) 9 [] ∷ [])) }
 {
     let loose = loose_refusal(alloc, scope, block)?;
     if loose.is_some() {
@@ -349,7 +354,9 @@ pub fn order_refusals(
 
 /// A block of WITH has no order and no limit.
 pub fn kind_seven(alloc: Global, named: &Named) -> Result<Option<Refusal>, Memory>
-    ensures { IfOk result (λ r. r ≡ refuse_if (is_some_of named.now.block.order || is_some named.now.block.limit) 7 named.now.name.text) }
+    ensures { IfOk result (λ r. r
+        ≡ refuse_if (is_some_of named.now.block.order || is_some
+        named.now.block.limit) 7 named.now.name.text) }
 {
     let listed = is_some_of(named.block.order.as_slice()) || named.block.limit.is_some();
     refuse_if(alloc, listed, 7, &named.name.text)

@@ -36,7 +36,10 @@ fn given_columns(alloc: Global, columns: &[Column]) -> Result<Vec<Given>, Memory
 }
 
 fn table_relation(alloc: Global, at: u32, columns: &[Column]) -> Result<Relation, Memory>
-    ensures { IfOk result (λ r. r ≡ record { columns = map given_column columns.now; plan = node.Scan at }) }
+    ensures { IfOk result (λ r. r ≡ record {
+      columns = map given_column columns.now;
+      plan = node.Scan at;
+    }) }
 {
     let columns = Items::from_vec(given_columns(alloc, columns)?);
     Ok(Relation {
@@ -186,7 +189,8 @@ fn unknown_refusal(
 }
 
 fn taken_refusal(alloc: Global, before: &[Text], source: &Source) -> Result<Option<Refusal>, Memory>
-    ensures { IfOk result (λ r. r ≡ refuse_if (is_among before.now (source_name source.now)) 3 (source_name source.now)) }
+    ensures { IfOk result (λ r. r ≡ refuse_if (is_among before.now (source_name source.now)) 3
+        (source_name source.now)) }
 {
     let name = source_name(source);
     refuse_if(alloc, is_among(before, name), 3, name)
@@ -199,7 +203,9 @@ fn source_refusal(
     scope: &[Seen],
     source: &Source,
 ) -> Result<Option<Refusal>, Memory>
-    ensures { IfOk result (λ r. r ≡ or_else (refuse_if (is_none found.now) 1 source.now.name.text) (or_else (refuse_if (is_among before.now (source_name source.now)) 3 (source_name source.now)) (cond_refusal scope.now source.now.on))) }
+    ensures { IfOk result (λ r. r ≡ or_else (refuse_if (is_none found.now) 1 source.now.name.text)
+        (or_else (refuse_if (is_among before.now (source_name source.now)) 3
+        (source_name source.now)) (cond_refusal scope.now source.now.on))) }
 {
     let unknown = unknown_refusal(alloc, found, source)?;
     if unknown.is_some() {
@@ -237,7 +243,8 @@ fn refusal_after(
     scope: Vec<Seen>,
     sources: &[Source],
 ) -> Result<Option<Refusal>, Memory>
-    ensures { IfOk result (λ r. r ≡ sources_refusal schema.now earlier.now before.items scope.items sources.now) }
+    ensures { IfOk result (λ r. r ≡ sources_refusal schema.now earlier.now before.items scope.items
+        sources.now) }
 {
     match sources.split_first() {
         None => Ok(None),
@@ -290,7 +297,11 @@ fn bound_of(
     scope: &[Seen],
     on: &[SqlClause],
 ) -> Result<Bound, Memory>
-    ensures { IfOk result (λ b. b ≡ record { plan = plan_of found; width = width; on = placed scope.now on.now }) }
+    ensures { IfOk result (λ b. b ≡ record {
+      plan = plan_of found;
+      width = width;
+      on = placed scope.now on.now;
+    }) }
 {
     let on = placed(alloc, scope, on)?;
     Ok(Bound {
@@ -307,7 +318,8 @@ fn bounds_after(
     scope: Vec<Seen>,
     sources: &[Source],
 ) -> Result<Vec<Bound>, Memory>
-    ensures { IfOk result (λ out. out.items ≡ bounds schema.now earlier.now scope.items sources.now) }
+    ensures { IfOk result (λ out. out.items ≡ bounds schema.now earlier.now scope.items
+        sources.now) }
 {
     match sources.split_first() {
         None => Ok(Vec::new(alloc)),

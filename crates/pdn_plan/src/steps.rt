@@ -81,7 +81,8 @@ fn numbered(
     partition: &[Col],
     order: &[OrderCol],
 ) -> Result<Step, Memory>
-    ensures { IfOk result (λ s. s ≡ step.Numbered (map (place scope.now) partition.now) (map (window_key (place scope.now)) order.now)) }
+    ensures { IfOk result (λ s. s ≡ step.Numbered (map (place scope.now) partition.now)
+        (map (window_key (place scope.now)) order.now)) }
 {
     let partition = places(alloc, scope, partition)?;
     let order = window_keys(alloc, scope, order)?;
@@ -107,7 +108,8 @@ fn window_step(alloc: Global, scope: &[Seen], items: &[Item]) -> Result<Step, Me
 }
 
 fn firsts_after(before: Vec<u32>, columns: &[u32]) -> Result<Vec<u32>, Memory>
-    ensures { IfOk result (λ out. out.items ≡ before.items ++ firsts (λ c. c) before.items columns.now) }
+    ensures { IfOk result (λ out. out.items ≡ before.items
+        ++ firsts (λ c. c) before.items columns.now) }
 {
     match columns.split_first() {
         None => Ok(before),
@@ -314,7 +316,8 @@ pub fn step_width(kept: &[u32], step: &Step) -> Result<u32, Memory>
 }
 
 fn what_at(scope: &[Seen], columns: &[u32], new: u32, what: &What) -> Result<u32, Memory>
-    ensures { IfOk result (λ at. at ≡ what_at (λ c. place_in columns.now (place scope.now c)) new what.now) }
+    ensures { IfOk result (λ at. at ≡ what_at (λ c. place_in columns.now (place scope.now c)) new
+        what.now) }
 {
     match what {
         What::Column(col) => place_in(columns, place(scope, col)?),
@@ -333,7 +336,8 @@ pub fn items_at(
     columns: &[u32],
     items: &[Item],
 ) -> Result<Vec<u32>, Memory>
-    ensures { IfOk result (λ out. out.items ≡ items_at (λ c. place_in columns.now (place scope.now c)) (length columns.now) items.now) }
+    ensures { IfOk result (λ out. out.items
+        ≡ items_at (λ c. place_in columns.now (place scope.now c)) (length columns.now) items.now) }
 {
     let new = count_of(columns)?;
     let mut out = Vec::new(alloc);

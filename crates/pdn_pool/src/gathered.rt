@@ -43,7 +43,8 @@ fn gather<J: Job>(
     requires first { IsFresh claims.now first × (weight first + length all.items ≡ 65535) }
     requires some { 1 ≤ length all.items }
     requires each { All (λ r. IfOk r (IsWork claims.now (length jobs.now))) all.items }
-    requires gives { All (λ r. IfOk r (λ w. All (GivenAt J.gives jobs.now) w.outs.items)) all.items }
+    requires gives { All (λ r. IfOk r (λ w. All (GivenAt J.gives jobs.now) w.outs.items))
+        all.items }
     ensures count { IfOk result (λ outs. length outs.items ≡ length jobs.now) }
     ensures each { IfOk result (λ outs. EachGives J.gives jobs.now outs.items) }
 {

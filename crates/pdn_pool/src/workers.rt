@@ -31,8 +31,10 @@ pub fn work_all<R: Threads + Sync, J: Job>(
     requires weight { All (λ s. weight s ≡ 1) seats.items }
     requires few { IsShort jobs.now }
     ensures count { IfOk result (λ all. length all.items ≡ length seats.items) }
-    ensures each { IfOk result (λ all. All (λ r. IfOk r (IsWork claims.now (length jobs.now))) all.items) }
-    ensures gives { IfOk result (λ all. All (λ r. IfOk r (λ w. All (GivenAt J.gives jobs.now) w.outs.items)) all.items) }
+    ensures each { IfOk result (λ all. All (λ r. IfOk r (IsWork claims.now (length jobs.now)))
+        all.items) }
+    ensures gives { IfOk result (λ all.
+        All (λ r. IfOk r (λ w. All (GivenAt J.gives jobs.now) w.outs.items)) all.items) }
 {
     let all = thread::map_vec(
         rt,

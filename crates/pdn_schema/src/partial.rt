@@ -350,7 +350,8 @@ impl Partial {
     }
 
     fn add_column(self, column: Column) -> Result<Partial, AllocError>
-        ensures { IfOk result (λ p. p ≡ after self (forms.Column column.name column.kind column.mark column.per)) }
+        ensures { IfOk result (λ p. p ≡ after self
+            (forms.Column column.name column.kind column.mark column.per)) }
     {
         let current = with_column(self.current, column)?;
         Ok(Partial {

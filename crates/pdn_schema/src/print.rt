@@ -28,7 +28,8 @@ fn put_floor(alloc: Global, out: &mut Vec<u8>, n: u32) -> Result<(), AllocError>
 }
 
 fn put_caller(alloc: Global, out: &mut Vec<u8>, name: &Name, calls: u32) -> Result<(), AllocError>
-    ensures { OnOk result (out.new.items ≡ out.old.items ++ line_text (forms.Caller name.now calls)) }
+    ensures { OnOk result (out.new.items ≡ out.old.items
+        ++ line_text (forms.Caller name.now calls)) }
 {
     out.extend_from_slice(b"caller ".as_slice())?;
     out.extend_from_slice(name.as_bytes())?;
@@ -97,7 +98,8 @@ fn put_end(out: &mut Vec<u8>) -> Result<(), AllocError>
 }
 
 fn put_callers(alloc: Global, out: &mut Vec<u8>, callers: &[Caller]) -> Result<(), AllocError>
-    ensures { OnOk result (out.new.items ≡ out.old.items ++ lines_text (callers_forms callers.now)) }
+    ensures { OnOk result (out.new.items ≡ out.old.items
+        ++ lines_text (callers_forms callers.now)) }
 {
     for c in callers {
         put_caller(alloc, out, &c.name, c.calls)?;
@@ -106,7 +108,8 @@ fn put_callers(alloc: Global, out: &mut Vec<u8>, callers: &[Caller]) -> Result<(
 }
 
 fn put_columns(alloc: Global, out: &mut Vec<u8>, columns: &[Column]) -> Result<(), AllocError>
-    ensures { OnOk result (out.new.items ≡ out.old.items ++ lines_text (columns_forms columns.now)) }
+    ensures { OnOk result (out.new.items ≡ out.old.items
+        ++ lines_text (columns_forms columns.now)) }
 {
     for c in columns {
         put_column(alloc, out, c)?;
@@ -137,7 +140,8 @@ fn put_schema(
     callers: &[Caller],
     tables: &[Table],
 ) -> Result<(), AllocError>
-    ensures { OnOk result (out.new.items ≡ out.old.items ++ text_of (record { floor = floor; callers = callers.now; tables = tables.now })) }
+    ensures { OnOk result (out.new.items ≡ out.old.items
+        ++ text_of (record { floor = floor; callers = callers.now; tables = tables.now })) }
 {
     put_version(out)?;
     put_floor(alloc, out, floor)?;

@@ -20,7 +20,8 @@ fn is_of_kind(value: &Value, kind: Kind) -> bool
 /// The first column whose value has the wrong kind, or is missing or too many.
 fn wrong_column(columns: &[Column], values: &[Value]) -> Option<u32>
     requires { length columns.now ≤ 8 }
-    ensures { MatchOption result (HasKinds columns.now values.now) (DifferAt columns.now values.now) }
+    ensures { MatchOption result (HasKinds columns.now values.now)
+        (DifferAt columns.now values.now) }
 {
     for (i, column) in columns.iter().enumerate() {
         let Some(value) = values.get(i) else {
@@ -65,7 +66,8 @@ fn is_over(rows: &[Row], column: u32, per: u32) -> bool
 /// The first public column with a value that stands in too many rows.
 fn column_over(columns: &[Column], rows: &[Row]) -> Option<u32>
     requires { length columns.now ≤ 8 }
-    ensures { MatchOption result (KeepEach columns.now rows.now) (IsFirstOver columns.now rows.now) }
+    ensures { MatchOption result (KeepEach columns.now rows.now)
+        (IsFirstOver columns.now rows.now) }
 {
     for (i, column) in columns.iter().enumerate() {
         if column.mark == Label::Public && is_over(rows, i as u32, column.per) {
@@ -79,7 +81,8 @@ fn column_over(columns: &[Column], rows: &[Row]) -> Option<u32>
 fn wrong_row(columns: &[Column], rows: &[Row]) -> Option<(u32, u32)>
     requires columns_few { length columns.now ≤ 8 }
     requires rows_few { length rows.now < 2 ^ 32 - 1 }
-    ensures { MatchOption result (All (HasKinds columns.now) rows.now) (λ at. IsFirstWrong columns.now rows.now at.0 at.1) }
+    ensures { MatchOption result (All (HasKinds columns.now) rows.now)
+        (λ at. IsFirstWrong columns.now rows.now at.0 at.1) }
 {
     for (i, row) in rows.iter().enumerate() {
         if let Some(column) = wrong_column(columns, row.values()) {

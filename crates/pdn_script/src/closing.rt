@@ -9,7 +9,9 @@ use pdn_base::{Sink, Status, Who};
 
 /// The status that a command ends with. The line of a refusal is put; where that put fails, the status stays.
 pub fn conclude<S: Sink>(came: Result<(), Stop>, out: &mut S) -> Status
-    ensures closes { Wrote (S.written out.old) (S.written out.new) (λ text. Closes (λ _. Rose (S.faults out.old) (S.faults out.new)) (end_of came) text result) }
+    ensures closes { Wrote (S.written out.old) (S.written out.new)
+        (λ text. Closes (λ _. Rose (S.faults out.old) (S.faults out.new)) (end_of came) text
+        result) }
     ensures later { S.faults out.old ≤ S.faults out.new }
 {
     match came {

@@ -82,7 +82,9 @@ fn begun(alloc: Global, left: &Left) -> Result<Builder, BuildErr>
 /// The circuit that puts out a list.
 fn finished(alloc: Global, b: Builder, list: &Padded, released: bool) -> Result<Circuit, BuildErr>
     requires { IsThere b list.now }
-    ensures { MatchResult result (λ circuit. circuit ≡ record { gates = b.gates; outputs = list_gates list.now; released = released }) (λ err. err ≡ build.Memory) }
+    ensures { MatchResult result (λ circuit. circuit
+        ≡ record { gates = b.gates; outputs = list_gates list.now; released = released })
+        (λ err. err ≡ build.Memory) }
 {
     let Ok(outputs) = list_gates(alloc, list) else {
         return Err(BuildErr::Memory);
@@ -104,7 +106,8 @@ pub fn secure_circuit(
     left: &Left,
 ) -> Result<Circuit, BuildErr>
     requires { left.now.gates ≤ 16777216 }
-    ensures { MakesNet left.now (net_of false (laid_through schema.now value.now top.now leaves.now).list) result }
+    ensures { MakesNet left.now
+        (net_of false (laid_through schema.now value.now top.now leaves.now).list) result }
 {
     let mut b = begun(alloc, left)?;
     let list = tree_list(alloc, &mut b, schema, value, top, leaves)?;

@@ -82,7 +82,8 @@ pub fn compile(
 ) -> Result<Units, CompileErr>
     requires staged { staged.now ≡ segments_of schema.now plan.now.root [] }
     requires dirs { length view.now ≡ length staged.now }
-    ensures units { IfOk result (λ units. compiled schema.now plan.now.root staged.now view.now ≡ Ok units) }
+    ensures units { IfOk result (λ units. compiled schema.now plan.now.root staged.now view.now
+        ≡ Ok units) }
     ensures large { IfErr result (IsTooLarge schema.now plan.now.root staged.now view.now) }
 {
     let left = Left {

@@ -10,7 +10,8 @@ use std::cmp::Ordering;
 
 /// Where among ascending values a value is to be put; nowhere, where it is there.
 fn place_of(values: &[Value], value: &Value) -> Option<usize>
-    ensures place { MatchOption result (placed value.now values.now ≡ values.now) (λ i. placed value.now values.now ≡ take i values.now ++ value.now ∷ drop i values.now) }
+    ensures place { MatchOption result (placed value.now values.now ≡ values.now)
+        (λ i. placed value.now values.now ≡ take i values.now ++ value.now ∷ drop i values.now) }
     ensures within { IfSome result (λ i. i ≤ length values.now) }
 {
     for i in 0..values.len() {
@@ -46,7 +47,8 @@ pub fn ascending(alloc: Global, values: &[Value]) -> Result<Vec<Value>, Memory>
 
 /// Adds the values that rows have in a column.
 fn add_column(values: &mut Vec<Value>, rows: &Rows, column: u32) -> Result<(), Memory>
-    ensures { OnOk result (values.new.items ≡ values.old.items ++ map (λ row. cell row column) rows.now) }
+    ensures { OnOk result (values.new.items ≡ values.old.items
+        ++ map (λ row. cell row column) rows.now) }
 {
     for row in rows.as_slice() {
         values.push(row.cell(column))?;

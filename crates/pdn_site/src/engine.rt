@@ -70,7 +70,8 @@ impl Model for SiteEngine {
 fn first_refused(schema: &Schema, tables: &Tables) -> Option<(u32, RowsErr)>
     requires count { length tables.now ≡ length schema.now.tables }
     requires few { All (λ (rows : RowsModel). length rows < 2 ^ 32 - 1) tables.now }
-    ensures { MatchOption result (AreValid schema.now tables.now) (λ first. IsFirstRefused schema.now tables.now first.0 first.1) }
+    ensures { MatchOption result (AreValid schema.now tables.now)
+        (λ first. IsFirstRefused schema.now tables.now first.0 first.1) }
 {
     // what a schema keeps is known once it is looked at
     let _floor = schema.floor;
@@ -111,7 +112,14 @@ impl SiteEngine {
         requires staged { staged.now ≡ segments_of schema.now plan.now.root [] }
         requires count { length tables ≡ length schema.now.tables }
         requires few { All (λ (rows : RowsModel). length rows < 2 ^ 32 - 1) tables }
-        ensures made { IfOk result (λ engine. engine ≡ record { site = site; schema = schema.now; root = plan.now.root; staged = staged.now; tables = tables }) }
+        ensures made { IfOk result (λ engine. engine
+            ≡ record {
+              site = site;
+              schema = schema.now;
+              root = plan.now.root;
+              staged = staged.now;
+              tables = tables;
+            }) }
         ensures is { IfOk result IsEngine }
         ensures refused { IfErr result (IsNoEngine schema.now tables) }
     {
@@ -136,7 +144,8 @@ impl SiteEngine {
     /// each once.
     pub fn directory(&self, alloc: Global, segment: u32) -> Result<Vec<Value>, Memory>
         requires { segment < length self.now.staged }
-        ensures { IfOk result (λ values. values.items ≡ directory self.now.tables (segment_of self.now segment).leaves) }
+        ensures { IfOk result (λ values. values.items
+            ≡ directory self.now.tables (segment_of self.now segment).leaves) }
     {
         directory(
             alloc,
@@ -169,7 +178,9 @@ impl SiteEngine {
     pub fn plain_slice(&self, alloc: Global, units: &Units, unit: u64) -> Result<Rows, Memory>
         requires in_range { unit < length units.now }
         requires of_segment { IsOfSegment self.now (get_or units.now unit no_unit) }
-        ensures { IfOk result (λ rows. rows ≡ slice_rows self.now (segment_number (get_or units.now unit no_unit)) (value_of (get_or units.now unit no_unit))) }
+        ensures { IfOk result (λ rows. rows
+            ≡ slice_rows self.now (segment_number (get_or units.now unit no_unit)) (value_of
+            (get_or units.now unit no_unit))) }
     {
         let unit = unit_at(units, unit);
         self.slice(alloc, segment_number(unit), &value_of(unit))
@@ -207,7 +218,9 @@ impl SiteEngine {
     ) -> Result<Vec<Word>, Memory>
         requires in_range { unit < length units.now }
         requires of_segment { IsOfSegment self.now (get_or units.now unit no_unit) }
-        ensures { IfOk result (λ words. words.items ≡ secure_words self.now (segment_number (get_or units.now unit no_unit)) (value_of (get_or units.now unit no_unit))) }
+        ensures { IfOk result (λ words. words.items
+            ≡ secure_words self.now (segment_number (get_or units.now unit no_unit)) (value_of
+            (get_or units.now unit no_unit))) }
     {
         let unit = unit_at(units, unit);
         self.secure_words(alloc, segment_number(unit), &value_of(unit))
@@ -235,8 +248,10 @@ impl SiteEngine {
     /// a plain unit has no circuit, and takes none.
     pub fn unit_inputs(&self, alloc: Global, units: &Units, unit: u64) -> Result<Vec<Word>, Memory>
         requires in_range { unit < length units.now }
-        requires of_segment { (get_or units.now unit no_unit).kind ≡ kind.Secure → IsOfSegment self.now (get_or units.now unit no_unit) }
-        ensures { IfOk result (λ words. words.items ≡ unit_inputs self.now units.now (get_or units.now unit no_unit)) }
+        requires of_segment { (get_or units.now unit no_unit).kind ≡ kind.Secure
+            → IsOfSegment self.now (get_or units.now unit no_unit) }
+        ensures { IfOk result (λ words. words.items
+            ≡ unit_inputs self.now units.now (get_or units.now unit no_unit)) }
     {
         match unit_at(units, unit).kind {
             UnitKind::Plain(_) => Ok(Vec::new(alloc)),

@@ -159,7 +159,8 @@ fn leaf_words(
     tree: &Node,
     leaves: &[Leaf],
 ) -> Result<Vec<Word>, Memory>
-    ensures { IfOk result (λ words. words.items ≡ leaf_words schema.now tables.now tree.now leaves.now) }
+    ensures { IfOk result (λ words. words.items
+        ≡ leaf_words schema.now tables.now tree.now leaves.now) }
 {
     let rows = run_local(alloc, schema, tree, tables)?;
     let kinds = kinds_of(alloc, schema, tree)?;
@@ -207,7 +208,8 @@ pub fn entered_words(
     leaves: &[Leaf],
     value: &Value,
 ) -> Result<Vec<Word>, Memory>
-    ensures { IfOk result (λ words. words.items ≡ entered_words schema.now tables.now value.now node.now leaves.now) }
+    ensures { IfOk result (λ words. words.items
+        ≡ entered_words schema.now tables.now value.now node.now leaves.now) }
 {
     if is_local(node) {
         let tree = narrowed(alloc, node, leaves, value)?;

@@ -18,7 +18,8 @@ use std::alloc::{AllocError, Global};
 
 /// The next `count` words of a site; the gate of the first.
 fn take_inputs(b: &mut Builder, site: Site, count: usize) -> Result<u32, BuildErr>
-    ensures made { Tries b.old b.new (words_gates (Input site) (input_count site b.old.gates) count) result }
+    ensures made { Tries b.old b.new (words_gates (Input site) (input_count site b.old.gates) count)
+        result }
     ensures few { IfOk result (λ _. length b.new.gates ≤ 16777216) }
 {
     let first = b.len();

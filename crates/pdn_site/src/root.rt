@@ -80,7 +80,9 @@ fn leaf_words(
     tables: &Tables,
     node: &Node,
 ) -> Result<Vec<Word>, Memory>
-    ensures { IfOk result (λ words. words.items ≡ entered (mean (table_of tables.now) node.now) (kinds schema.now node.now) (room_of schema.now node.now)) }
+    ensures { IfOk result (λ words. words.items
+        ≡ entered (mean (table_of tables.now) node.now) (kinds schema.now node.now) (room_of
+        schema.now node.now)) }
 {
     let rows = run_local(alloc, schema, node, tables)?;
     let kinds = kinds_of(alloc, schema, node)?;
@@ -98,7 +100,9 @@ fn plain_words(
     len: u32,
 ) -> Result<Vec<Word>, Memory>
     requires { leaves.now ≡ leaves_of schema.now top.now (slice_column schema.now top.now) }
-    ensures { IfOk result (λ words. words.items ≡ entered (plain_rows schema.now tables.now value.now top.now) (kinds schema.now top.now) len) }
+    ensures { IfOk result (λ words. words.items
+        ≡ entered (plain_rows schema.now tables.now value.now top.now) (kinds schema.now
+        top.now) len) }
 {
     let tree = narrowed(alloc, top, leaves, value)?;
     let rows = run_local(alloc, schema, &tree, tables)?;
@@ -142,7 +146,8 @@ fn unit_words(
     unit: &Unit,
 ) -> Result<Vec<Word>, Memory>
     requires { leaves.now ≡ leaves_of schema.now top.now (slice_column schema.now top.now) }
-    ensures { IfOk result (λ words. words.items ≡ words_in site schema.now tables.now top.now segment unit.now) }
+    ensures { IfOk result (λ words. words.items
+        ≡ words_in site schema.now tables.now top.now segment unit.now) }
 {
     if is_segment(segment, unit.segment) && is_of(site, unit.kind) {
         let value = value_of(unit);
@@ -165,7 +170,8 @@ fn segment_words(
     segment: usize,
 ) -> Result<Vec<Word>, Memory>
     requires { leaves.now ≡ leaves_of schema.now top.now (slice_column schema.now top.now) }
-    ensures { IfOk result (λ words. words.items ≡ flat_map (words_in site schema.now tables.now top.now segment) units.now) }
+    ensures { IfOk result (λ words. words.items
+        ≡ flat_map (words_in site schema.now tables.now top.now segment) units.now) }
 {
     let mut words = Vec::new(alloc);
     for unit in &units.units {
@@ -211,7 +217,10 @@ fn next_of(own: &TreeWords) -> usize
 
 /// The words of two trees, one after the other.
 fn both(left: TreeWords, right: TreeWords) -> Result<TreeWords, Memory>
-    ensures { IfOk result (λ own. own ≡ record { words = left.words ++ right.words; segments = right.segments }) }
+    ensures { IfOk result (λ own. own ≡ record {
+      words = left.words ++ right.words;
+      segments = right.segments;
+    }) }
 {
     let mut words = left.words;
     let mut more = right.words;
@@ -235,7 +244,8 @@ pub fn tree_words(
     segment: usize,
 ) -> Result<TreeWords, Memory>
     requires { StandsFrom schema.now staged.now node.now segment }
-    ensures { IfOk result (λ own. own ≡ tree_words site schema.now tables.now (slices_in (length staged.now) units.now) node.now segment) }
+    ensures { IfOk result (λ own. own ≡ tree_words site schema.now tables.now
+        (slices_in (length staged.now) units.now) node.now segment) }
 {
     match level_of(alloc, node, schema)? {
         Level::Local => {

@@ -95,7 +95,10 @@ fn gates_of(unit: &Unit) -> &[Gate]
 
 /// A unit that passes no limit.
 fn stepped(unit: Unit, left: &Left) -> Result<Step, Memory>
-    ensures { IfOk result (λ step. step ≡ record { unit = unit; left = spent left.now (gates_of unit.circuit) }) }
+    ensures { IfOk result (λ step. step ≡ record {
+      unit = unit;
+      left = spent left.now (gates_of unit.circuit);
+    }) }
 {
     let left = spent(left, gates_of(&unit))?;
     Ok(Step { unit, left })
@@ -123,7 +126,8 @@ fn plain_unit(
     site: Site,
     left: &Left,
 ) -> Result<Step, CompileErr>
-    ensures { MakesUnit left.now (shape_along schema.now top.now leaves.now segment value.now (Plain site)) result }
+    ensures { MakesUnit left.now (shape_along schema.now top.now leaves.now segment value.now
+        (Plain site)) result }
 {
     let Some(lists) = sized(alloc, schema, 1, top, leaves)? else {
         return Err(CompileErr::TooLarge {
@@ -153,7 +157,8 @@ fn secure_unit(
     left: &Left,
 ) -> Result<Step, CompileErr>
     requires { left.now.gates ≤ 16777216 }
-    ensures { MakesUnit left.now (shape_along schema.now top.now leaves.now segment value.now Secure) result }
+    ensures { MakesUnit left.now (shape_along schema.now top.now leaves.now segment value.now
+        Secure) result }
 {
     let Some(lists) = sized(alloc, schema, 2, top, leaves)? else {
         return Err(CompileErr::TooLarge {
@@ -219,7 +224,8 @@ fn value_unit(
     left: &Left,
 ) -> Result<Step, CompileErr>
     requires { left.now.gates ≤ 16777216 }
-    ensures { MakesUnit left.now (shape_along schema.now top.now leaves.now segment value.now kind) result }
+    ensures { MakesUnit left.now (shape_along schema.now top.now leaves.now segment value.now kind)
+        result }
 {
     match kind {
         UnitKind::Plain(site) => plain_unit(alloc, schema, top, leaves, segment, value, site, left),
@@ -239,7 +245,8 @@ pub fn segment_units(
     left: Left,
 ) -> Result<Batch, CompileErr>
     requires { left.gates ≤ 16777216 }
-    ensures { MakesUnits left (segment_along schema.now top.now leaves.now segment dirs.now) result }
+    ensures { MakesUnits left (segment_along schema.now top.now leaves.now segment dirs.now)
+        result }
 {
     let values = unit_values(alloc, dirs)?;
     let mut units = Vec::new(alloc);

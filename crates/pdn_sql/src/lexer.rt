@@ -297,7 +297,9 @@ fn put(
     token: Option<Token>,
 ) -> Result<bool, AllocError>
     requires { seen.old.depth < 2 ^ 32 }
-    ensures added { IfOk result (λ over. (end : ℕ) (more : List Placed) → out.new.items ++ unless over (marked end seen.new more) ≡ out.old.items ++ marked end seen.old (put token at more)) }
+    ensures added { IfOk result (λ over. (end : ℕ) (more : List Placed)
+        → out.new.items ++ unless over (marked end seen.new
+        more) ≡ out.old.items ++ marked end seen.old (put token at more)) }
     ensures deep { seen.new.depth ≤ seen.old.depth + 1 }
 {
     let Some(token) = token else {

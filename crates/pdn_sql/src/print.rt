@@ -138,7 +138,8 @@ fn put_gap(out: &mut Vec<u8>, a: &Token, b: &Token) -> Result<(), AllocError>
 }
 
 fn put_next(alloc: Global, out: &mut Vec<u8>, last: &Token, next: &Token) -> Result<(), Memory>
-    ensures { OnOk result (out.new.items ≡ out.old.items ++ (gap last.now next.now ++ token_text next.now)) }
+    ensures { OnOk result (out.new.items ≡ out.old.items
+        ++ (gap last.now next.now ++ token_text next.now)) }
 {
     put_gap(out, last, next)?;
     put_token(alloc, out, next)
@@ -185,7 +186,10 @@ pub fn print_query(alloc: Global, query: &Query) -> Result<Vec<u8>, Memory>
     ensures text { IfOk result (λ text. text.items ≡ query_text query.now) }
     // For a query that some file says, a printed form of at most 4096 bytes says the same query, but for the places of
     // its names.
-    ensures again { (most limit : ℕ) (bytes : List ℕ) (queries : List Query) → Says most bytes queries → Member query.now queries → length (query_text query.now) ≤ 4096 → 1 ≤ limit → (r : Query) × SameQuery query.now r × Says limit (query_text query.now) (r ∷ []) }
+    ensures again { (most limit : ℕ) (bytes : List ℕ) (queries : List Query)
+        → Says most bytes queries → Member query.now queries → length (query_text
+        query.now) ≤ 4096 → 1 ≤ limit → (r : Query) × SameQuery query.now r
+        × Says limit (query_text query.now) (r ∷ []) }
 {
     printed(alloc, query)
 }

@@ -115,7 +115,8 @@ fn put_cmp(alloc: Global, out: &mut Vec<Token>, cmp: &SqlCmp) -> Result<(), Allo
 }
 
 fn more_cmps(alloc: Global, out: &mut Vec<Token>, rest: &[SqlCmp]) -> Result<(), AllocError>
-    ensures { OnOk result (out.new.items ≡ out.old.items ++ each (λ x. Word words.Or ∷ cmp_tokens x) rest.now) }
+    ensures { OnOk result (out.new.items ≡ out.old.items
+        ++ each (λ x. Word words.Or ∷ cmp_tokens x) rest.now) }
 {
     for x in rest {
         put_word(out, Keyword::Or)?;
@@ -125,7 +126,8 @@ fn more_cmps(alloc: Global, out: &mut Vec<Token>, rest: &[SqlCmp]) -> Result<(),
 }
 
 fn put_cmps(alloc: Global, out: &mut Vec<Token>, all: &[SqlCmp]) -> Result<(), AllocError>
-    ensures { OnOk result (out.new.items ≡ out.old.items ++ between (Word words.Or) (λ x. cmp_tokens x) all.now) }
+    ensures { OnOk result (out.new.items ≡ out.old.items
+        ++ between (Word words.Or) (λ x. cmp_tokens x) all.now) }
 {
     let Some((first, rest)) = all.split_first() else {
         return Ok(());
@@ -135,7 +137,8 @@ fn put_cmps(alloc: Global, out: &mut Vec<Token>, all: &[SqlCmp]) -> Result<(), A
 }
 
 fn put_choice(alloc: Global, out: &mut Vec<Token>, any: &[SqlCmp]) -> Result<(), AllocError>
-    ensures { OnOk result (out.new.items ≡ out.old.items ++ Mark marks.Open ∷ between (Word words.Or) (λ x. cmp_tokens x) any.now ++ Mark marks.Close ∷ []) }
+    ensures { OnOk result (out.new.items ≡ out.old.items ++ Mark marks.Open
+        ∷ between (Word words.Or) (λ x. cmp_tokens x) any.now ++ Mark marks.Close ∷ []) }
 {
     put_mark(out, Symbol::Open)?;
     put_cmps(alloc, out, any)?;
@@ -154,7 +157,8 @@ fn put_clause(alloc: Global, out: &mut Vec<Token>, clause: &SqlClause) -> Result
 }
 
 fn more_cond(alloc: Global, out: &mut Vec<Token>, rest: &[SqlClause]) -> Result<(), AllocError>
-    ensures { OnOk result (out.new.items ≡ out.old.items ++ each (λ x. Word words.And ∷ clause_tokens x.any) rest.now) }
+    ensures { OnOk result (out.new.items ≡ out.old.items
+        ++ each (λ x. Word words.And ∷ clause_tokens x.any) rest.now) }
 {
     for x in rest {
         put_word(out, Keyword::And)?;
@@ -164,7 +168,8 @@ fn more_cond(alloc: Global, out: &mut Vec<Token>, rest: &[SqlClause]) -> Result<
 }
 
 fn put_cond(alloc: Global, out: &mut Vec<Token>, all: &[SqlClause]) -> Result<(), AllocError>
-    ensures { OnOk result (out.new.items ≡ out.old.items ++ between (Word words.And) (λ x. clause_tokens x.any) all.now) }
+    ensures { OnOk result (out.new.items ≡ out.old.items
+        ++ between (Word words.And) (λ x. clause_tokens x.any) all.now) }
 {
     let Some((first, rest)) = all.split_first() else {
         return Ok(());
@@ -191,7 +196,8 @@ fn put_order_col(alloc: Global, out: &mut Vec<Token>, order: &OrderCol) -> Resul
 }
 
 fn more_cols(alloc: Global, out: &mut Vec<Token>, rest: &[Col]) -> Result<(), AllocError>
-    ensures { OnOk result (out.new.items ≡ out.old.items ++ each (λ x. Mark marks.Comma ∷ col_tokens x) rest.now) }
+    ensures { OnOk result (out.new.items ≡ out.old.items
+        ++ each (λ x. Mark marks.Comma ∷ col_tokens x) rest.now) }
 {
     for x in rest {
         put_mark(out, Symbol::Comma)?;
@@ -201,7 +207,8 @@ fn more_cols(alloc: Global, out: &mut Vec<Token>, rest: &[Col]) -> Result<(), Al
 }
 
 fn put_cols(alloc: Global, out: &mut Vec<Token>, all: &[Col]) -> Result<(), AllocError>
-    ensures { OnOk result (out.new.items ≡ out.old.items ++ between (Mark marks.Comma) (λ x. col_tokens x) all.now) }
+    ensures { OnOk result (out.new.items ≡ out.old.items
+        ++ between (Mark marks.Comma) (λ x. col_tokens x) all.now) }
 {
     let Some((first, rest)) = all.split_first() else {
         return Ok(());
@@ -211,7 +218,8 @@ fn put_cols(alloc: Global, out: &mut Vec<Token>, all: &[Col]) -> Result<(), Allo
 }
 
 fn more_order_cols(alloc: Global, out: &mut Vec<Token>, rest: &[OrderCol]) -> Result<(), AllocError>
-    ensures { OnOk result (out.new.items ≡ out.old.items ++ each (λ x. Mark marks.Comma ∷ order_col_tokens x) rest.now) }
+    ensures { OnOk result (out.new.items ≡ out.old.items
+        ++ each (λ x. Mark marks.Comma ∷ order_col_tokens x) rest.now) }
 {
     for x in rest {
         put_mark(out, Symbol::Comma)?;
@@ -221,7 +229,8 @@ fn more_order_cols(alloc: Global, out: &mut Vec<Token>, rest: &[OrderCol]) -> Re
 }
 
 fn put_order_cols(alloc: Global, out: &mut Vec<Token>, all: &[OrderCol]) -> Result<(), AllocError>
-    ensures { OnOk result (out.new.items ≡ out.old.items ++ between (Mark marks.Comma) (λ x. order_col_tokens x) all.now) }
+    ensures { OnOk result (out.new.items ≡ out.old.items
+        ++ between (Mark marks.Comma) (λ x. order_col_tokens x) all.now) }
 {
     let Some((first, rest)) = all.split_first() else {
         return Ok(());
@@ -264,14 +273,16 @@ fn put_window(
     partition: &[Col],
     order: &[OrderCol],
 ) -> Result<(), AllocError>
-    ensures { OnOk result (out.new.items ≡ out.old.items ++ partition_tokens partition.now ++ window_order_tokens order.now) }
+    ensures { OnOk result (out.new.items ≡ out.old.items ++ partition_tokens partition.now
+        ++ window_order_tokens order.now) }
 {
     put_partition(alloc, out, partition)?;
     put_window_order(alloc, out, order)
 }
 
 fn put_count(out: &mut Vec<Token>) -> Result<(), AllocError>
-    ensures { OnOk result (out.new.items ≡ out.old.items ++ Word words.Count ∷ Mark marks.Open ∷ Mark marks.Star ∷ Mark marks.Close ∷ []) }
+    ensures { OnOk result (out.new.items ≡ out.old.items ++ Word words.Count ∷ Mark marks.Open
+        ∷ Mark marks.Star ∷ Mark marks.Close ∷ []) }
 {
     put_word(out, Keyword::Count)?;
     put_mark(out, Symbol::Open)?;
@@ -280,7 +291,8 @@ fn put_count(out: &mut Vec<Token>) -> Result<(), AllocError>
 }
 
 fn put_number_front(out: &mut Vec<Token>) -> Result<(), AllocError>
-    ensures { OnOk result (out.new.items ≡ out.old.items ++ Word words.RowNumber ∷ Mark marks.Open ∷ Mark marks.Close ∷ Word words.Over ∷ Mark marks.Open ∷ []) }
+    ensures { OnOk result (out.new.items ≡ out.old.items ++ Word words.RowNumber ∷ Mark marks.Open
+        ∷ Mark marks.Close ∷ Word words.Over ∷ Mark marks.Open ∷ []) }
 {
     put_word(out, Keyword::RowNumber)?;
     put_mark(out, Symbol::Open)?;
@@ -323,7 +335,8 @@ fn put_item(alloc: Global, out: &mut Vec<Token>, item: &Item) -> Result<(), Allo
 }
 
 fn more_items(alloc: Global, out: &mut Vec<Token>, rest: &[Item]) -> Result<(), AllocError>
-    ensures { OnOk result (out.new.items ≡ out.old.items ++ each (λ x. Mark marks.Comma ∷ item_tokens x) rest.now) }
+    ensures { OnOk result (out.new.items ≡ out.old.items
+        ++ each (λ x. Mark marks.Comma ∷ item_tokens x) rest.now) }
 {
     for x in rest {
         put_mark(out, Symbol::Comma)?;
@@ -333,7 +346,8 @@ fn more_items(alloc: Global, out: &mut Vec<Token>, rest: &[Item]) -> Result<(), 
 }
 
 fn put_items(alloc: Global, out: &mut Vec<Token>, all: &[Item]) -> Result<(), AllocError>
-    ensures { OnOk result (out.new.items ≡ out.old.items ++ between (Mark marks.Comma) (λ x. item_tokens x) all.now) }
+    ensures { OnOk result (out.new.items ≡ out.old.items
+        ++ between (Mark marks.Comma) (λ x. item_tokens x) all.now) }
 {
     let Some((first, rest)) = all.split_first() else {
         return Ok(());
@@ -443,7 +457,8 @@ fn more_order_names(
     out: &mut Vec<Token>,
     rest: &[OrderName],
 ) -> Result<(), AllocError>
-    ensures { OnOk result (out.new.items ≡ out.old.items ++ each (λ x. Mark marks.Comma ∷ order_name_tokens x) rest.now) }
+    ensures { OnOk result (out.new.items ≡ out.old.items
+        ++ each (λ x. Mark marks.Comma ∷ order_name_tokens x) rest.now) }
 {
     for x in rest {
         put_mark(out, Symbol::Comma)?;
@@ -453,7 +468,8 @@ fn more_order_names(
 }
 
 fn put_order_names(alloc: Global, out: &mut Vec<Token>, all: &[OrderName]) -> Result<(), AllocError>
-    ensures { OnOk result (out.new.items ≡ out.old.items ++ between (Mark marks.Comma) (λ x. order_name_tokens x) all.now) }
+    ensures { OnOk result (out.new.items ≡ out.old.items
+        ++ between (Mark marks.Comma) (λ x. order_name_tokens x) all.now) }
 {
     let Some((first, rest)) = all.split_first() else {
         return Ok(());
@@ -485,7 +501,9 @@ fn put_limit(out: &mut Vec<Token>, limit: Option<u32>) -> Result<(), AllocError>
 }
 
 fn put_front(alloc: Global, out: &mut Vec<Token>, block: &Block) -> Result<(), AllocError>
-    ensures { OnOk result (out.new.items ≡ out.old.items ++ Word words.Select ∷ distinct_tokens block.now.distinct ++ between (Mark marks.Comma) (λ x. item_tokens x) block.now.items ++ Word words.From ∷ []) }
+    ensures { OnOk result (out.new.items ≡ out.old.items ++ Word words.Select
+        ∷ distinct_tokens block.now.distinct ++ between (Mark marks.Comma) (λ x.
+        item_tokens x) block.now.items ++ Word words.From ∷ []) }
 {
     put_word(out, Keyword::Select)?;
     put_distinct(out, block.distinct)?;
@@ -494,7 +512,8 @@ fn put_front(alloc: Global, out: &mut Vec<Token>, block: &Block) -> Result<(), A
 }
 
 fn put_rest(alloc: Global, out: &mut Vec<Token>, block: &Block) -> Result<(), AllocError>
-    ensures { OnOk result (out.new.items ≡ out.old.items ++ filter_tokens block.now.filter ++ group_tokens block.now.group block.now.having ++ order_tokens block.now.order ++ maybe limit_tokens block.now.limit) }
+    ensures { OnOk result (out.new.items ≡ out.old.items ++ filter_tokens block.now.filter
+        ++ group_tokens block.now.group block.now.having ++ order_tokens block.now.order ++ maybe limit_tokens block.now.limit) }
 {
     put_filter(alloc, out, block.filter.as_slice())?;
     put_group(alloc, out, block.group.as_slice(), block.having)?;
@@ -523,7 +542,8 @@ fn put_named(alloc: Global, out: &mut Vec<Token>, named: &Named) -> Result<(), A
 }
 
 fn more_nameds(alloc: Global, out: &mut Vec<Token>, rest: &[Named]) -> Result<(), AllocError>
-    ensures { OnOk result (out.new.items ≡ out.old.items ++ each (λ x. Mark marks.Comma ∷ named_tokens x) rest.now) }
+    ensures { OnOk result (out.new.items ≡ out.old.items
+        ++ each (λ x. Mark marks.Comma ∷ named_tokens x) rest.now) }
 {
     for x in rest {
         put_mark(out, Symbol::Comma)?;
@@ -533,7 +553,8 @@ fn more_nameds(alloc: Global, out: &mut Vec<Token>, rest: &[Named]) -> Result<()
 }
 
 fn put_nameds(alloc: Global, out: &mut Vec<Token>, all: &[Named]) -> Result<(), AllocError>
-    ensures { OnOk result (out.new.items ≡ out.old.items ++ between (Mark marks.Comma) (λ x. named_tokens x) all.now) }
+    ensures { OnOk result (out.new.items ≡ out.old.items
+        ++ between (Mark marks.Comma) (λ x. named_tokens x) all.now) }
 {
     let Some((first, rest)) = all.split_first() else {
         return Ok(());

@@ -81,7 +81,8 @@ pub fn read_queries(alloc: Global, bytes: &[u8], most: u32) -> Result<Vec<Query>
     // What is read is what the bytes say.
     ensures found { IfOk result (λ queries. Says most bytes.now queries.items) }
     // What the bytes say is read, unless memory runs out.
-    ensures only { (queries : List Query) → Says most bytes.now queries → GivesQueries (λ v. v.items) queries result }
+    ensures only { (queries : List Query) → Says most bytes.now queries
+        → GivesQueries (λ v. v.items) queries result }
     // An error is memory, or at the first token after which no continuation says queries.
     ensures fault { FaultOf most bytes.now result }
 {

@@ -81,7 +81,8 @@ impl<'a> Reader<'a> {
 
     /// The first of a list, and those that follow.
     fn more_sources(&mut self, alloc: Global, first: Source) -> Result<Items<Source>, Stop>
-        ensures { Gives (λ x. x) result self.new (with_front (first ∷ []) ((many join).read self.old)) }
+        ensures { Gives (λ x. x) result self.new
+            (with_front (first ∷ []) ((many join).read self.old)) }
     {
         let mut sources = Items::new(alloc);
         sources.push(first)?;
@@ -171,7 +172,8 @@ impl<'a> Reader<'a> {
         alloc: Global,
         first: OrderName,
     ) -> Result<Items<OrderName>, Stop>
-        ensures { Gives (λ x. x) result self.new (with_front (first ∷ []) ((many next_order_name).read self.old)) }
+        ensures { Gives (λ x. x) result self.new
+            (with_front (first ∷ []) ((many next_order_name).read self.old)) }
     {
         let mut order = Items::new(alloc);
         order.push(first)?;

@@ -58,7 +58,8 @@ impl<'a> Reader<'a> {
 
     /// The first of a list, and those that follow.
     fn more_cols(&mut self, alloc: Global, first: Col) -> Result<Items<Col>, Stop>
-        ensures { Gives (λ x. x) result self.new (with_front (first ∷ []) ((many next_col).read self.old)) }
+        ensures { Gives (λ x. x) result self.new
+            (with_front (first ∷ []) ((many next_col).read self.old)) }
     {
         let mut cols = Items::new(alloc);
         cols.push(first)?;
@@ -129,7 +130,8 @@ impl<'a> Reader<'a> {
 
     /// The first of a list, and those that follow.
     fn more_cmps(&mut self, alloc: Global, first: SqlCmp) -> Result<Items<SqlCmp>, Stop>
-        ensures { Gives (λ x. x) result self.new (with_front (first ∷ []) ((many next_cmp).read self.old)) }
+        ensures { Gives (λ x. x) result self.new
+            (with_front (first ∷ []) ((many next_cmp).read self.old)) }
     {
         let mut any = Items::new(alloc);
         any.push(first)?;
@@ -190,7 +192,8 @@ impl<'a> Reader<'a> {
 
     /// The first of a list, and those that follow.
     fn more_clauses(&mut self, alloc: Global, first: SqlClause) -> Result<Items<SqlClause>, Stop>
-        ensures { Gives (λ x. x) result self.new (with_front (first ∷ []) ((many next_clause).read self.old)) }
+        ensures { Gives (λ x. x) result self.new
+            (with_front (first ∷ []) ((many next_clause).read self.old)) }
     {
         let mut all = Items::new(alloc);
         all.push(first)?;

@@ -42,7 +42,8 @@ impl<'a> Reader<'a> {
 
     /// The first of a list, and those that follow.
     fn more_nameds(&mut self, alloc: Global, first: Named) -> Result<Items<Named>, Stop>
-        ensures { Gives (λ x. x) result self.new (with_front (first ∷ []) ((many next_named).read self.old)) }
+        ensures { Gives (λ x. x) result self.new
+            (with_front (first ∷ []) ((many next_named).read self.old)) }
     {
         let mut with = Items::new(alloc);
         with.push(first)?;
@@ -82,7 +83,8 @@ impl<'a> Reader<'a> {
 
     /// The first of a list, and those that follow.
     fn more_queries(&mut self, alloc: Global, first: Query) -> Result<Vec<Query>, Stop>
-        ensures { Gives (λ x. x.items) result self.new (with_front (first ∷ []) ((many query).read self.old)) }
+        ensures { Gives (λ x. x.items) result self.new
+            (with_front (first ∷ []) ((many query).read self.old)) }
     {
         let mut queries = vec![in alloc; first]?;
         while self.at_query() {

@@ -54,7 +54,8 @@ impl<'a> Reader<'a> {
 
     /// The first of a list, and those that follow.
     fn more_order_cols(&mut self, alloc: Global, first: OrderCol) -> Result<Items<OrderCol>, Stop>
-        ensures { Gives (λ x. x) result self.new (with_front (first ∷ []) ((many next_order_col).read self.old)) }
+        ensures { Gives (λ x. x) result self.new
+            (with_front (first ∷ []) ((many next_order_col).read self.old)) }
     {
         let mut order = Items::new(alloc);
         order.push(first)?;
@@ -172,7 +173,8 @@ impl<'a> Reader<'a> {
 
     /// The first of a list, and those that follow.
     fn more_items(&mut self, alloc: Global, first: Item) -> Result<Items<Item>, Stop>
-        ensures { Gives (λ x. x) result self.new (with_front (first ∷ []) ((many next_item).read self.old)) }
+        ensures { Gives (λ x. x) result self.new
+            (with_front (first ∷ []) ((many next_item).read self.old)) }
     {
         let mut items = Items::new(alloc);
         items.push(first)?;

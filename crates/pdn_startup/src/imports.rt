@@ -122,7 +122,9 @@ fn takes<K: SiteKeeper>(
 ) -> Result<bool, Memory>
     requires in_range { table < length schema.now.tables }
     requires short { IsShort bytes.now }
-    ensures taken { IfOk result (λ took. TookIf took (Rose (K.faults keeper.old) (K.faults keeper.new)) (table_of schema.now table) bytes.now (K.batches keeper.old) (K.batches keeper.new)) }
+    ensures taken { IfOk result (λ took. TookIf took
+        (Rose (K.faults keeper.old) (K.faults keeper.new)) (table_of schema.now
+        table) bytes.now (K.batches keeper.old) (K.batches keeper.new)) }
     ensures later { K.faults keeper.old ≤ K.faults keeper.new }
 {
     let rows = match import_csv(alloc, schema, table, bytes) {
