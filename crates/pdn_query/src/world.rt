@@ -30,13 +30,18 @@ pub trait Outside {
     ghost state: { Self → WorldModel };
 
     /// The bytes of the file of this name, at most 536,870,912.
+    ///
+    /// Absent where there is no such file; Failed where the read failed, which is counted; Memory for want of memory.
+    /// No answer changes a file.
     fn read(&mut self, alloc: Global, name: &str) -> Result<Vec<u8>, FileErr>
         ensures size { IfOk result (λ bytes. length bytes.items ≤ 536870912) }
         ensures read { MatchResult result
             (λ bytes. Replied (state self.old) (state self.new) (File name.now) (Some bytes.items))
             (NotRead (state self.old) (state self.new) name.now) };
 
-    /// The rows that a site keeps of a table, fewer than 2^32 - 1.
+    /// The rows that a site keeps of a table, fewer than 2^32 - 1, in the order in which they were kept.
+    ///
+    /// Failed where the keeper failed, which is counted; Memory for want of memory. No answer changes what is kept.
     fn rows(
         &mut self,
         alloc: Global,
@@ -50,7 +55,13 @@ pub trait Outside {
             (λ rows. Replied (state self.old) (state self.new) (Kept site name) rows)
             (NotKept (state self.old) (state self.new) site name) };
 
-    /// Gives a site a batch of a table.
+    /// Gives a site a batch of a table: New where it is now the table's last batch, Again where it was kept before with
+    /// the same rows.
+    ///
+    /// Differs where its number is kept with other rows, OverRows where the table would have too many rows, OverPer where
+    /// a value of a public column would stand in too many; Failed where the keeper failed, which is counted; Memory for
+    /// want of memory. After New the batch is kept; after each other answer what is kept is as before, and after Failed it
+    /// is as before or with the batch.
     fn add_batch(
         &mut self,
         alloc: Global,
@@ -67,6 +78,9 @@ pub trait Outside {
         ensures only { OnlyAt site (state self.old).told (state self.new).told };
 
     /// The desk's next ticket, which is then taken; 2^40 where none is left.
+    ///
+    /// Failed where the keeper failed, which is counted: a ticket may then be taken, and is given to nobody. Memory for
+    /// want of memory: none is taken.
     fn ticket(&mut self, alloc: Global) -> Result<u64, KeepErr>
         ensures given { MatchResult result
             (λ ticket. Replied (state self.old) (state self.new) Ticket ticket)
@@ -74,6 +88,8 @@ pub trait Outside {
         ensures only { OnlyDesk (state self.old).told (state self.new).told };
 
     /// Puts these bytes on the sink.
+    ///
+    /// Failed where not all were taken, which is counted: a front of them may stand on the sink.
     fn put(&mut self, bytes: &[u8]) -> Result<(), SinkErr>
         ensures put { MatchResult result
             (λ _. Put (state self.old) (state self.new) bytes.now)
