@@ -26,7 +26,7 @@ desk=$!
 # Asks under a number of ann's, with a query or, for what is kept, without; shows the body and the status. Waits while nobody listens
 # yet, as long as the desk runs.
 ask() {
-    local path=callers/ann/queries/$1 status=7
+    local path=callers/ann/queries/$1 status
     shift
     if [ $# -eq 0 ]; then
         echo "GET $path"
@@ -34,10 +34,12 @@ ask() {
         echo "POST $path  $1"
         set -- --data-binary "$1"
     fi
-    while [ "$status" -eq 7 ]; do
+    while :; do
         status=0
         curl -s -w '  (%{http_code})\n' "$@" "http://127.0.0.1:$port/$path" || status=$?
-        [ "$status" -ne 7 ] || { kill -0 "$desk" && sleep 0.1; }
+        [ "$status" -eq 7 ] || return "$status"
+        kill -0 "$desk" 2>/dev/null || { cat ends; exit 1; }
+        sleep 0.1
     done
 }
 
