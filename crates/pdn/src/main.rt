@@ -4,7 +4,7 @@
 use pdn_base::{Files, RealFiles, Sink, Status, StdSink};
 use pdn_commands::{World, pdn};
 use pdn_dealer::ChaChaDeal;
-use pdn_explain::explain;
+use pdn_explain::{explain, explain_in, place_of};
 use pdn_startup::dealer_of;
 use pdn_store::{SqliteDesk, SqliteSite};
 use std::alloc::{AllocError, Global};
@@ -20,6 +20,7 @@ pdn twin <a or b> <sqlfile> <folder> <workers>   what a or b sees of each query 
 pdn check <sqlfile>                              prints the schema, and each query's form, columns and segments
 pdn load <a or b> <table> <batch> <csvfile>      gives a site a batch of a table
 pdn --explain <line>                             says what a line 'refused ..' or 'fault ..' means, and what to do
+pdn --explain <line> <sqlfile>                   the same for a line 'refused 4 ..', and shows the place in the file
 pdn --help                                       prints this
 pdn --version                                    prints the version
 
@@ -28,6 +29,10 @@ and b.db, the desk its tickets in desk.db; each is made where there is none.
 ";
 
 const NO_REFUSAL: &str = "This is no line by which the program refuses or fails.";
+
+const NO_FILE: &str = "The file whose name stands behind the line can't be read.";
+
+const NO_PLACE: &str = "The file whose name stands behind the line ends before this place, or the line is none of its kind.";
 
 const VERSION: &str = "pdn 0.1.0\n";
 
