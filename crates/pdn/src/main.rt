@@ -1,10 +1,10 @@
 //! The program of a private data network of two sites.
 #![tactic(auto)]
 
-use pdn_base::{Files, RealFiles, Sink, Status, StdSink};
+use pdn_base::{FileErr, Files, RealFiles, Sink, Status, StdSink};
 use pdn_commands::{World, pdn};
 use pdn_dealer::ChaChaDeal;
-use pdn_explain::explain;
+use pdn_explain::{explain, explain_in, place_of};
 use pdn_startup::dealer_of;
 use pdn_store::{SqliteDesk, SqliteSite};
 use std::alloc::{AllocError, Global};
@@ -20,6 +20,7 @@ pdn twin <a or b> <sqlfile> <folder> <workers>   what a or b sees of each query 
 pdn check <sqlfile>                              prints the schema, and each query's form, columns and segments
 pdn load <a or b> <table> <batch> <csvfile>      gives a site a batch of a table
 pdn --explain <line>                             says what a line 'refused ..' or 'fault ..' means, and what to do
+pdn --explain <line> <sqlfile>                   the same for a line 'refused 4 ..', and shows the place in the file
 pdn --help                                       prints this
 pdn --version                                    prints the version
 
@@ -28,6 +29,10 @@ and b.db, the desk its tickets in desk.db; each is made where there is none.
 ";
 
 const NO_REFUSAL: &str = "This is no line by which the program refuses or fails.";
+
+const NO_FILE: &str = "The file whose name stands behind the line can't be read.";
+
+const NO_PLACE: &str = "The file whose name stands behind the line ends before this place.";
 
 const VERSION: &str = "pdn 0.1.0\n";
 
@@ -48,7 +53,7 @@ fn main(rt: HostRuntime) -> ExitCode {
         // Words that are no text are refused as no words are.
         Err(_) => Vec::new(alloc),
     };
-    if let Some(code) = answer_alone(alloc, &words, &mut world.out) {
+    if let Some(code) = answer_alone(alloc, &words, &mut world.files, &mut world.out) {
         return code;
     }
     let Some(deal) = dealer_there(alloc, &mut world.files) else {
@@ -76,24 +81,76 @@ fn dealer_there(alloc: Global, files: &mut impl Files) -> Option<ChaChaDeal> {
 }
 
 // Answers the words that want neither key nor store.
-fn answer_alone(alloc: Global, words: &[String], out: &mut impl Sink) -> Option<ExitCode> {
+fn answer_alone(
+    alloc: Global,
+    words: &[String],
+    files: &mut impl Files,
+    out: &mut impl Sink,
+) -> Option<ExitCode> {
     match words {
-        [first, line @ ..] if first.as_str() == "--explain" => Some(tell(alloc, line, out)),
-        _ => about(words).map(|text| put(out, text, ExitCode::SUCCESS)),
+        [first, line @ ..] if first.as_str() == "--explain" => Some(tell(alloc, line, files, out)),
+        _ => about(words).map(|text| put(out, text.as_bytes(), ExitCode::SUCCESS)),
     }
 }
 
-// Says what a line means. The line may be one word or several.
-fn tell(alloc: Global, line: &[String], out: &mut impl Sink) -> ExitCode {
-    let Ok(line) = by_blanks(alloc, line) else {
+// Says what a line means, and where in a file if a file's name stands behind a line that names a place. The line may be
+// one word or several.
+fn tell(
+    alloc: Global,
+    words: &[String],
+    files: &mut impl Files,
+    out: &mut impl Sink,
+) -> ExitCode {
+    if let [line @ .., file] = words {
+        let Ok(line) = by_blanks(alloc, line) else {
+            return ExitCode::from(Status::Memory.code());
+        };
+        if place_of(line.as_bytes()).is_some() && explain(line.as_str()).is_some() {
+            return tell_place(alloc, line.as_str(), file.as_str(), files, out);
+        }
+    }
+    tell_line(alloc, words, out)
+}
+
+fn tell_line(alloc: Global, words: &[String], out: &mut impl Sink) -> ExitCode {
+    let Ok(line) = by_blanks(alloc, words) else {
         return ExitCode::from(Status::Memory.code());
     };
-    let (means, code) = match explain(line.as_str()) {
-        Some(means) => (means, ExitCode::SUCCESS),
-        None => (NO_REFUSAL, ExitCode::from(Status::Words.code())),
+    match explain(line.as_str()) {
+        Some(means) => say(alloc, means, ExitCode::SUCCESS, out),
+        None => say(
+            alloc,
+            NO_REFUSAL,
+            ExitCode::from(Status::Words.code()),
+            out,
+        ),
+    }
+}
+
+fn tell_place(
+    alloc: Global,
+    line: &str,
+    name: &str,
+    files: &mut impl Files,
+    out: &mut impl Sink,
+) -> ExitCode {
+    let unsaid = ExitCode::from(Status::Words.code());
+    let file = match files.read(alloc, name) {
+        Ok(file) => file,
+        Err(FileErr::Memory) => return ExitCode::from(Status::Memory.code()),
+        Err(_) => return say(alloc, NO_FILE, unsaid, out),
     };
-    match format!(in alloc; "{means}\n") {
-        Ok(text) => put(out, text.as_str(), code),
+    match explain_in(alloc, line, &file) {
+        Ok(Some(text)) => put(out, &text, ExitCode::SUCCESS),
+        Ok(None) => say(alloc, NO_PLACE, unsaid, out),
+        Err(_) => ExitCode::from(Status::Memory.code()),
+    }
+}
+
+// Puts a sentence as a line.
+fn say(alloc: Global, text: &str, code: ExitCode, out: &mut impl Sink) -> ExitCode {
+    match format!(in alloc; "{text}\n") {
+        Ok(line) => put(out, line.as_bytes(), code),
         Err(_) => ExitCode::from(Status::Memory.code()),
     }
 }
@@ -111,8 +168,8 @@ fn by_blanks(alloc: Global, words: &[String]) -> Result<String, AllocError> {
 }
 
 // Puts a text, and ends so where that is done.
-fn put(out: &mut impl Sink, text: &str, code: ExitCode) -> ExitCode {
-    match out.put(text.as_bytes()) {
+fn put(out: &mut impl Sink, text: &[u8], code: ExitCode) -> ExitCode {
+    match out.put(text) {
         Ok(()) => code,
         Err(_) => ExitCode::FAILURE,
     }

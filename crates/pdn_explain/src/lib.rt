@@ -5,7 +5,9 @@
 #![tactic(auto)]
 
 mod lines;
+mod places;
 mod table;
 
-pub use lines::{explain, meaning};
+pub use lines::{explain, explain_in, meaning, meaning_in, place_of};
+pub use places::place_text;
 pub use table::{LINES, Told};

@@ -1,10 +1,14 @@
 //! Which form a line has.
-ghost use Rattle.std.specs.Prelude.{◌≡◌, ◌≤◌, length, option_map};
+ghost use Rattle.std.specs.Prelude.{◌≡◌, ◌≤◌, length, option_map, IfOk};
 ghost use Rattle.std.specs.Char.{is_ascii_digit};
 ghost use Rattle.std.specs.List.{prefix_len};
 ghost use Rattle.pdn_explain.specs.Forms.{fits, is_no_blank, is_number, meaning};
+ghost use Rattle.pdn_explain.specs.Places.{meaning_in, place_of, placed, told_there};
 
+use crate::places::place_text;
 use crate::table::{LINES, Told};
+use pdn_base::{Memory, number};
+use std::alloc::Global;
 
 /// What a line of a program says and what to do about it, in plain words; `None` where the line has none of the forms of
 /// `LINES`. The line is given without its line feed.
@@ -22,6 +26,72 @@ pub fn meaning(lines: &[Told], line: &[u8]) -> Option<&'static str>
         }
     }
     None
+}
+
+/// What a line `refused 4 place <p> kind <k>` says, and where in the file: the sentence, then line and column of the place,
+/// and the line with a mark under the place, each ended by a line feed. `None` where the line has none of the forms of
+/// `LINES`, where it names no place, and where the file ends before the place.
+pub fn explain_in(alloc: Global, line: &str, file: &[u8]) -> Result<Option<Vec<u8>>, Memory> {
+    meaning_in(alloc, &LINES, line.as_bytes(), file)
+}
+
+/// What the first form that a line has says, and where in a file.
+pub fn meaning_in(
+    alloc: Global,
+    lines: &[Told],
+    line: &[u8],
+    file: &[u8],
+) -> Result<Option<Vec<u8>>, Memory>
+    ensures { IfOk result (λ told. option_map (λ text. text.items) told
+        ≡ meaning_in lines.now line.now file.now) }
+{
+    let Some(means) = meaning(lines, line) else {
+        return Ok(None);
+    };
+    let Some(place) = place_of(line) else {
+        return Ok(None);
+    };
+    told_there(alloc, means, place as usize, file)
+}
+
+/// The place in bytes that a line `refused 4 place <p> kind <k>` names, up to 4294967295; `None` of another line.
+pub fn place_of(line: &[u8]) -> Option<u32>
+    ensures { result ≡ place_of line.now }
+{
+    if !is_placed(line) {
+        return None;
+    }
+    let behind = line.get(16..)?;
+    let (place, _) = behind.split_at(digits(behind));
+    number(place)
+}
+
+// Whether a line has the form of those that name a place.
+#[tactic(auto, unfolding(crate::specs::Places::placed))]
+fn is_placed(line: &[u8]) -> bool
+    ensures { result ≡ fits placed line.now }
+{
+    fits(b"refused 4 place # kind #", line)
+}
+
+// A sentence, and where in a file; nothing where the file ends before the place.
+fn told_there(
+    alloc: Global,
+    means: &str,
+    place: usize,
+    file: &[u8],
+) -> Result<Option<Vec<u8>>, Memory>
+    ensures { IfOk result (λ told. option_map (λ text. text.items) told
+        ≡ told_there means.now (Some place) file.now) }
+{
+    if place > file.len() {
+        return Ok(None);
+    }
+    let there = place_text(alloc, file, place)?;
+    let mut text = Vec::from_slice(alloc, means.as_bytes())?;
+    text.push(b'\n')?;
+    text.extend_from_slice(there.as_slice())?;
+    Ok(Some(text))
 }
 
 // How many digits stand at the front.
