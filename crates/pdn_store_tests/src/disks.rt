@@ -7,9 +7,9 @@ use std::cell::Cell;
 use std::rc::Rc;
 use std::test::Fail;
 
-pub(crate) type Store = FileStore<Stopping>;
+pub(crate) type Store = FileStore<Stopping<Memory>>;
 
-pub(crate) type Disks = Files<Stopping>;
+pub(crate) type Disks = Files<Stopping<Memory>>;
 
 /// Empty disks of a machine that stops after so many calls.
 pub(crate) fn disks(alloc: Global, calls: u64) -> Result<Disks, Fail> {

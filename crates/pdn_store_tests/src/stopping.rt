@@ -3,7 +3,7 @@ ghost use Rattle.std.specs.Prelude.{◌≡◌, false};
 ghost use Rattle.sqlite_disk.specs.Disk.{CountsFault};
 ghost use Rattle.sqlite_disk.specs.Refusal.{finds_no_room};
 
-use sqlite_disk::{Crash, Disk, Memory, Tally};
+use sqlite_disk::{Crash, Disk, Tally};
 use std::cell::Cell;
 use std::io;
 use std::rc::Rc;
@@ -17,18 +17,18 @@ pub(crate) enum Loss {
     Unsynced,
 }
 
-/// A file in memory, whose machine's files pass on so many calls together. Then each call fails and changes nothing.
+/// A file, whose machine's files pass on so many calls together. Then each call fails and changes nothing.
 #[derive(Drop)]
-pub(crate) struct Stopping {
-    file: Memory,
+pub(crate) struct Stopping<D: Disk> {
+    file: D,
     left: Rc<Cell<u64>>,
     refused: u64,
     sync_refused: bool,
 }
 
-impl Stopping {
+impl<D: Disk> Stopping<D> {
     /// A file on a machine of which so many calls are left.
-    pub(crate) fn new(file: Memory, left: Rc<Cell<u64>>) -> Stopping {
+    pub(crate) fn new(file: D, left: Rc<Cell<u64>>) -> Stopping<D> {
         Stopping {
             file,
             left,
@@ -41,9 +41,11 @@ impl Stopping {
     pub(crate) fn has_stopped(&self) -> bool {
         self.left.get() == 0
     }
+}
 
+impl<D: Crash> Stopping<D> {
     /// The file on the machine that comes back, of which so many calls are left.
-    pub(crate) fn back(self, loss: Loss, left: Rc<Cell<u64>>) -> Stopping {
+    pub(crate) fn back(self, loss: Loss, left: Rc<Cell<u64>>) -> Stopping<D> {
         let Stopping {
             mut file,
             left: _,
@@ -71,28 +73,32 @@ fn spend(left: &Cell<u64>, refused: &mut u64) -> io::Result<()>
     Ok(())
 }
 
-impl Disk for Stopping {
+impl<D: Disk> Disk for Stopping<D> {
     ghost use Rattle.std.specs.Prelude.{◌+◌, ◌&&◌, not};
 
-    ghost seen = { λ s. Memory.Disk.seen s.file };
+    ghost seen = { λ s. D.Disk.seen s.file };
 
-    ghost may_leave = { λ s. Memory.Disk.may_leave s.file };
+    ghost may_leave = { λ s. D.Disk.may_leave s.file };
 
-    ghost is_usable = { λ s. Memory.Disk.is_usable s.file && not s.sync_refused };
+    ghost is_usable = { λ s. D.Disk.is_usable s.file && not s.sync_refused };
 
-    ghost faults = { λ s. Memory.Disk.faults s.file + s.refused };
+    ghost faults = { λ s. D.Disk.faults s.file + s.refused };
 
-    ghost tally_of = { λ s. Memory.Disk.tally_of s.file };
+    ghost tally_of = { λ s. D.Disk.tally_of s.file };
 
-    ghost key_of = { λ s. Memory.Disk.key_of s.file };
+    ghost key_of = { λ s. D.Disk.key_of s.file };
 
-    ghost is_clean = { λ s. Memory.Disk.is_clean s.file };
+    ghost is_rotten = { λ s. D.Disk.is_rotten s.file };
 
-    ghost is_fair = { λ s. Memory.Disk.is_fair s.file };
+    ghost is_mixing = { λ s. D.Disk.is_mixing s.file };
 
-    ghost fair_if_clean = { λ s. Memory.Disk.fair_if_clean s.file };
+    ghost is_clean = { λ s. D.Disk.is_clean s.file };
 
-    ghost seen_may_stay = { λ s. Memory.Disk.seen_may_stay s.file };
+    ghost is_fair = { λ s. D.Disk.is_fair s.file };
+
+    ghost fair_if_clean = { λ s. D.Disk.fair_if_clean s.file };
+
+    ghost seen_may_stay = { λ s. D.Disk.seen_may_stay s.file };
 
     fn mixes(&self) -> bool {
         self.file.mixes()
