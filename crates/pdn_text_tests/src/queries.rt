@@ -52,3 +52,23 @@ fn queries_are_read_in_order_and_printed(rt: HostRuntime) -> Result<(), Fail> {
     }
     Ok(())
 }
+
+/// A query whose every front lacks at least its end.
+const RECURRENT: &str =
+    "WITH d AS (SELECT pid, day, ROW_NUMBER() OVER (PARTITION BY pid ORDER BY day) AS r FROM diag \
+    WHERE code = 'cdiff') SELECT DISTINCT a.pid FROM d a JOIN d b ON a.pid = b.pid AND b.r = a.r + 1 \
+    WHERE b.day >= a.day + 15 AND b.day <= a.day + 56 ORDER BY pid;";
+
+#[test]
+fn each_front_of_a_query_is_refused(rt: HostRuntime) -> Result<(), Fail> {
+    let text = RECURRENT.as_bytes();
+    for size in 0..text.len() {
+        let fault = read(&rt, &text[..size], 16).err().ok_or("it is no query")?;
+        assert!(rt;
+            matches!(fault, SqlErr::At { place, .. } if place as usize <= size),
+            "of {size} bytes"
+        );
+    }
+    assert!(rt; read(&rt, text, 16).is_ok());
+    Ok(())
+}
