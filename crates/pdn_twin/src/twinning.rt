@@ -67,7 +67,6 @@ fn secure_jobs<'a, D: Deal>(
 }
 
 /// Runs the secure units in both worlds by these workers.
-#[tactic(auto, using(crate::proofs::Crossing::worlds_sync))]
 fn secure_twins<R: Threads + Sync, D: Deal>(
     rt: &R,
     alloc: Global,
