@@ -115,7 +115,8 @@ fn deal() -> ChaChaDeal {
 }
 
 // What the site sees, as text: in the first world, and in the second on the changed tape.
-fn twin_texts(
+fn twin_texts<R: Threads + Sync>(
+    rt: &R,
     alloc: Global,
     site: Site,
     schema: &Schema,
@@ -129,7 +130,7 @@ fn twin_texts(
     requires second { AreTwo tables.now.second }
 {
     let worlds = worlds_of(alloc, site, schema, plan, tables)?;
-    let twin = twin(alloc, worlds, TICKET, &deal())?;
+    let twin = twin(rt, alloc, worlds, TICKET, &deal(), 2)?;
     Ok((
         print_view(alloc, &twin.first)?,
         print_view(alloc, &twin.second)?,
@@ -186,7 +187,7 @@ fn is_as_wanted<R: Threads + Sync>(
     if schema.tables.len() != 2 {
         return Err(Memory);
     }
-    let (first, changed) = twin_texts(alloc, site, &schema, &plan, &tables)?;
+    let (first, changed) = twin_texts(rt, alloc, site, &schema, &plan, &tables)?;
     let unchanged = unchanged_text(rt, alloc, site, &schema, &plan, &tables)?;
     Ok(first == changed && (first != unchanged) == differs)
 }
