@@ -26,6 +26,8 @@ use Rattle.pdn_site.proofs.SliceLaws.{all_at}
 use Rattle.pdn_broker.specs.Prepared.{PreparedModel, IsPrepared}
 use Rattle.pdn_broker.specs.Runs.{Tape}
 use Rattle.pdn_worlds.specs.TwoWorlds.{AreWorlds, SecondWorldLaw, TranscriptLaw, union_of}
+use Rattle.pdn_view.specs.Views.{ViewWords}
+use Rattle.pdn_twin.specs.Twins.{TwinWords, IsTwin}
 use Rattle.pdn_twin.specs.declared.twins.Worlds.{Worlds}
 use Rattle.pdn_script.specs.declared.stop.Stop.{Stop}
 use Rattle.pdn_script.specs.Stops.{stop_of}
@@ -36,7 +38,7 @@ use Rattle.pdn_query.specs.Walk.{NoMemory, Along, Leads, Came}
 use Rattle.pdn_query.specs.World.{WorldModel}
 use Rattle.pdn_query.proofs.Walks.{begun, halted, refused}
 use Rattle.pdn_commands.specs.HandedOn.{AreTablesOf, AreReadyWorlds}
-use Rattle.pdn_commands.specs.Twinning.{TwoWorlds, given_or, given_tables, second_world, first_ready, second_ready, twin_of, twin_words, twin_text, EqualViewsLaw}
+use Rattle.pdn_commands.specs.Twinning.{TwoWorlds, given_or, given_tables, second_world, first_ready, second_ready, of_each, of_first, HasEqualViews, KeepsEqual, twin_of, twin_words, twin_text, EqualViewsLaw}
 
 -- ---- the second world's tables
 
@@ -163,10 +165,28 @@ units_on world next units compiled e = subst (λ (c : Compiled). Leads world wor
 
 -- ---- what is put
 
--- the twin's text, by what the worlds are
-pub twin_printed : (w : TwoWorlds) (root : Node) (both : Worlds) → AreReadyWorlds w root both → (tape : Tape) (number ticket : ℕ) →
-    twin_text both.site number ticket (twin_of both.site both.first both.second tape ticket) ≡ twin_text w.site number ticket (twin_words tape w root both.first.units ticket)
-twin_printed w root both ready tape number ticket = λ i. twin_text (ready.site i) number ticket (twin_of (ready.site i) (ready.first i) (ready.second i) tape ticket)
+-- a twin's words are those of these worlds, and its views are equal
+module _ (site : Site) (p q : PreparedModel) (tape : Tape) (ticket : ℕ) (twin : TwinWords) (is : IsTwin site p q tape ticket twin) where
+  pub twin_is : twin ≡ twin_of site p q tape ticket
+  unfolding twin_of
+  twin_is = λ i. record { first = is.first i; second = is.second i; changed = is.changed i }
+
+  pub twin_alike : HasEqualViews (twin_of site p q tape ticket)
+  twin_alike = subst HasEqualViews twin_is is.equal
+
+pub each_keeps : KeepsEqual of_each
+each_keeps twin equal = refl
+
+pub first_keeps : KeepsEqual of_first
+first_keeps twin equal = ap (λ (second : ViewWords). record { first = twin.first; second = second; changed = twin.changed }) (sym equal)
+
+-- the twin's text with any views that keep equal ones, by what the worlds are
+module _ (views : TwinWords → TwinWords) (keeps : KeepsEqual views) where
+  pub twin_printed : (w : TwoWorlds) (root : Node) (both : Worlds) → AreReadyWorlds w root both → (tape : Tape) (number ticket : ℕ) → HasEqualViews (twin_of both.site both.first both.second tape ticket) →
+      twin_text both.site number ticket (twin_of both.site both.first both.second tape ticket) ≡ twin_text w.site number ticket (views (twin_words tape w root both.first.units ticket))
+  twin_printed w root both ready tape number ticket equal =
+      let same : twin_of both.site both.first both.second tape ticket ≡ twin_words tape w root both.first.units ticket = λ i. twin_of (ready.site i) (ready.first i) (ready.second i) tape ticket in
+      (λ i. twin_text (ready.site i) number ticket (same i)) ∙ ap (twin_text w.site number ticket) (sym (keeps (twin_words tape w root both.first.units ticket) (subst HasEqualViews same equal)))
 
 pub came_same : {T : Type 0} (a b : WorldModel) (text other : List ℕ) (rest : Script) (result : Result T Stop) → text ≡ other → Came a b (Say text rest) (λ _. rest) result → Came a b (Say other rest) (λ _. rest) result
 came_same a b text other rest result is came = subst (λ (said : List ℕ). Came a b (Say said rest) (λ _. rest) result) is came

@@ -14,7 +14,7 @@ use Rattle.pdn_script.proofs.Ends.{status_has, done_text, memory_end}
 use Rattle.pdn_commands.specs.Causes.{IsDone}
 use Rattle.pdn_commands.specs.Commands.{Task, Run, Check, Twin, Load, task_of, task_script, run_script, check_script, script}
 use Rattle.pdn_commands.specs.Script.{load_script}
-use Rattle.pdn_commands.specs.Twinning.{twin_script}
+use Rattle.pdn_commands.specs.Twinning.{of_each, twin_script}
 use Rattle.pdn_commands.specs.Outcomes.{HasCause, IsAllDone}
 use Rattle.pdn_commands.specs.TwinCauses.{IsTwinned}
 use Rattle.pdn_commands.proofs.Refusing.{refusals_map}
@@ -45,7 +45,7 @@ module _ (tape : Tape) (rose : Who → Type 0) (told : Told) (words : List (List
   alone : (script : Script) → Refusals told (RefusedAlone rose told words) script → Refusals told (Refused rose told words) script
   alone script r = refusals_map (RefusedAlone rose told words) (Refused rose told words) cause_of_all told script r
 
-  task_caused : (task : Option Task) → task_of words ≡ task → Refusals told (Refused rose told words) (task_script tape task)
+  task_caused : (task : Option Task) → task_of words ≡ task → Refusals told (Refused rose told words) (task_script of_each tape task)
   task_caused None e = inl e
   task_caused (Some (Run file workers parties)) e = alone (run_script tape parties file) (run_caused tape rose told words file workers parties e)
   task_caused (Some (Check file)) e = alone (check_script file) (check_caused tape rose told words file e)
@@ -82,11 +82,11 @@ module _ (tape : Tape) (rose : Who → Type 0) (told : Told) (words : List (List
 
 -- ---- what Done comes with
 module _ (tape : Tape) (told : Told) (words : List (List ℕ)) where
-  task_text : (task : Option Task) → task_of words ≡ task → Texts told (IsAllDone tape told words) (task_script tape task)
+  task_text : (task : Option Task) → task_of words ≡ task → Texts told (IsAllDone tape told words) (task_script of_each tape task)
   task_text None e = tt
   task_text (Some (Run file workers parties)) e = texts_map (IsDone tape told words) (IsAllDone tape told words) (λ text now is. inl is) told (run_script tape parties file) (run_text tape told words file workers parties e)
   task_text (Some (Check file)) e = texts_map (IsDone tape told words) (IsAllDone tape told words) (λ text now is. inl is) told (check_script file) (check_text tape told words file e)
-  task_text (Some (Twin site file folder workers)) e = texts_map (IsTwinned tape told words) (IsAllDone tape told words) (λ text now is. inr is) told (twin_script tape site file folder) (twin_text tape told words site file folder workers e)
+  task_text (Some (Twin site file folder workers)) e = texts_map (IsTwinned tape told words) (IsAllDone tape told words) (λ text now is. inr is) told (twin_script of_each tape site file folder) (twin_text tape told words site file folder workers e)
   task_text (Some (Load site table number file)) e = texts_map (IsDone tape told words) (IsAllDone tape told words) (λ text now is. inl is) told (load_script site table number file) (load_task_text tape told words site table number file e)
 
   pub does : (rose : Who → Type 0) (out : List ℕ) (result : Status) (now : Told) → Follows rose told (script tape words) out result now → result ≡ status.Done → IsAllDone tape told words out now

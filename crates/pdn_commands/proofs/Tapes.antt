@@ -8,6 +8,7 @@ use Rattle.pdn_query.specs.Script.{Script}
 use Rattle.pdn_commands.specs.Commands.{Task, Run, Check, Twin, Load, task_of, task_script, run_script, shown, SameOnTapes}
 use Rattle.pdn_commands.specs.Running.{queries_script}
 use Rattle.pdn_commands.specs.Script.{with_inputs, with_queries}
+use Rattle.pdn_commands.specs.Twinning.{of_each}
 
 module _ (tape other : Tape) where
   -- nothing of the tape stands in an answer without views
@@ -17,7 +18,7 @@ module _ (tape other : Tape) where
   run_same : (file : List ℕ) → run_script tape [] file ≡ run_script other [] file
   run_same file = ap (λ (next : SchemaModel → List ℕ → Script). with_inputs file next) (λ i s sql. ap (with_queries sql) (λ j queries. queries_same s 1 queries j) i)
 
-  task_same : (task : Option Task) → shown task ≡ [] → task_script tape task ≡ task_script other task
+  task_same : (task : Option Task) → shown task ≡ [] → task_script of_each tape task ≡ task_script of_each other task
   task_same None none = refl
   task_same (Some (Run file workers parties)) none =
       let same : run_script tape [] file ≡ run_script other [] file = run_same file in

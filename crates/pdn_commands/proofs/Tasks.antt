@@ -5,14 +5,16 @@ use Rattle.pdn_base.specs.declared.site.Site.{Site}
 use Rattle.pdn_base.specs.declared.site.Site.TheVariants.{A, B}
 use Rattle.pdn_view.specs.declared.view.Party.{Party}
 use Rattle.pdn_broker.specs.Runs.{Tape}
+use Rattle.pdn_twin.specs.Twins.{TwinWords}
 use Rattle.pdn_query.specs.Questions.{Told, OnlyAt}
 use Rattle.pdn_query.specs.Walk.{End, Along}
 use Rattle.pdn_query.specs.World.{WorldModel}
-use Rattle.pdn_commands.specs.Commands.{Task, Run, Twin, Load, task_of, task_script, script, run_task, loads, runs}
+use Rattle.pdn_commands.specs.Commands.{Task, Run, Twin, Load, task_of, task_script, run_task, loads, runs}
 
 -- the script is that of the task that the words ask for
-pub asked : {a b : WorldModel} {end : End} (tape : Tape) (words : List (List ℕ)) (task : Option Task) → task ≡ task_of words → Along a b (task_script tape task) end → Along a b (script tape words) end
-asked {a} {b} {end} tape words task is w = subst (λ (t : Option Task). Along a b (task_script tape t) end) is w
+pub asked : {a b : WorldModel} {end : End} (views : TwinWords → TwinWords) (tape : Tape) (words : List (List ℕ)) (task : Option Task) → task ≡ task_of words → Along a b (task_script views tape task) end →
+    Along a b (task_script views tape (task_of words)) end
+asked {a} {b} {end} views tape words task is w = subst (λ (t : Option Task). Along a b (task_script views tape t) end) is w
 
 -- ---- which site a load changes
 

@@ -24,7 +24,7 @@ use Rattle.pdn_commands.specs.Commands.{Twin, task_of}
 use Rattle.pdn_commands.specs.Outcomes.{HasCause}
 use Rattle.pdn_commands.specs.Running.{with_given}
 use Rattle.pdn_commands.specs.TwinCauses.{AskedTwin, AskedTwins, TwinRows, TwinValid, TwinAgreed, TwinQuery, IsTwinTaken, IsTwinText, IsTwinned, FileGives, second_tables, worlds_of}
-use Rattle.pdn_commands.specs.Twinning.{TwoWorlds, other_site, rows_file, finding, importing_file, judging_worlds, twin_planned, twin_query, twins_script, twin_script}
+use Rattle.pdn_commands.specs.Twinning.{TwoWorlds, other_site, rows_file, finding, importing_file, judging_worlds, of_each, twin_planned, twin_query, twins_script, twin_script}
 use Rattle.pdn_commands.proofs.Refusing.{in_inputs, in_read, in_each, in_files, in_judged, in_compared, in_large, in_given, in_numbered, from_first, all_given}
 use Rattle.pdn_commands.proofs.Saying.{text_inputs, text_read, text_each, text_file, text_judged, text_compared, text_large, text_given, bound_text, numbered_text}
 
@@ -52,7 +52,7 @@ module _ (tape : Tape) (rose : Who → Type 0) (told : Told) (words : List (List
 
   planned_caused : (at : TwinQuery told words) (number : ℕ) (next : Script) (plan : PlanModel) → IsBound at.agreed.valid.rows.all.twin.s at.query (Ok plan) →
       (IsTwinTaken (worlds_of at.agreed.valid.rows) at.query → (ticket : ℕ) → ticket < 2 ^ 40 → IsNext (with_given (length at.reached.before) told.desk) ticket → CausedAt (with_ticket (with_given (length at.reached.before) told.desk)) next) →
-      CausedAt (with_given (length at.reached.before) told.desk) (twin_planned tape (worlds_of at.agreed.valid.rows) number plan next)
+      CausedAt (with_given (length at.reached.before) told.desk) (twin_planned of_each tape (worlds_of at.agreed.valid.rows) number plan next)
   planned_caused at number next plan binds more =
       let now : Told = with_desk told (with_given (length at.reached.before) told.desk) in
       let rows : TwinRows told words = at.agreed.valid.rows in
@@ -60,9 +60,9 @@ module _ (tape : Tape) (rose : Who → Type 0) (told : Told) (words : List (List
       (λ units fits. let taken : IsTwinTaken (worlds_of rows) at.query = record { plan = plan; binds = binds; units = units; fits = fits } in
       in_given now (Refused rose told words) _ (λ ticket most is. inr (record { at = at; taken = taken; spent = all_given told.desk (length at.reached.before) ticket most is })) (λ ticket few is. more taken ticket few is))
 
-  queries_caused : (agreed : TwinAgreed told words) → Caused (twins_script tape (worlds_of agreed.valid.rows) 1 agreed.valid.rows.all.queries)
+  queries_caused : (agreed : TwinAgreed told words) → Caused (twins_script of_each tape (worlds_of agreed.valid.rows) 1 agreed.valid.rows.all.queries)
   queries_caused agreed = let w : TwoWorlds = worlds_of agreed.valid.rows in
-      in_numbered told (Refused rose told words) (IsTwinTaken w) agreed.valid.rows.all.queries (twin_query tape w) (λ number before later query next e taken left more.
+      in_numbered told (Refused rose told words) (IsTwinTaken w) agreed.valid.rows.all.queries (twin_query of_each tape w) (λ number before later query next e taken left more.
       let at : TwinQuery told words = record { agreed = agreed; query = query; reached = record { before = before; later = later; stands = e; taken = taken; left = left } } in
       bound_caused at (with_given (length before) told.desk) _ (λ plan binds. planned_caused at number next plan binds more))
 
@@ -75,7 +75,7 @@ module _ (tape : Tape) (rose : Who → Type 0) (told : Told) (words : List (List
       Refused rose told words (status.BadRows (other_site rows.all.twin.site) at e)
   wrong_second rows at e va vb are = inr (rows, inr (va, vb, refl, are))
 
-  worlds_caused : (rows : TwinRows told words) → Caused (judging_worlds rows.all.twin.site rows.all.twin.s rows.first (second_tables rows) (λ w. twins_script tape w 1 rows.all.queries))
+  worlds_caused : (rows : TwinRows told words) → Caused (judging_worlds rows.all.twin.site rows.all.twin.s rows.first (second_tables rows) (λ w. twins_script of_each tape w 1 rows.all.queries))
   worlds_caused rows = let s : SchemaModel = rows.all.twin.s in let a : List Rows = rows.first.a in let b : List Rows = rows.first.b in
       in_judged told (Refused rose told words) A 0 s.tables a _ (λ k place e same before l refused. wrong_first rows A place e (subst (λ (n : ℕ). AreWrong s a b A n e) (from_first k place same) (record { before = before; within = l; here = refused }))) (λ va.
       in_judged told (Refused rose told words) B 0 s.tables b _ (λ k place e same before l refused. wrong_first rows B place e (subst (λ (n : ℕ). AreWrong s a b B n e) (from_first k place same) (va, record { before = before; within = l; here = refused }))) (λ vb.
@@ -85,7 +85,7 @@ module _ (tape : Tape) (rose : Who → Type 0) (told : Told) (words : List (List
       λ spot is. in_compared told (Refused rose told words) s (other_tables rows.all.twin.site rows.first) (second_tables rows) _ spot is (λ at differs. inr (record { valid = valid; spot = differs }))
       (λ same. queries_caused (record { valid = valid; agree = same })))))
 
-  pub twin_caused : (site : Site) (file folder : List ℕ) (workers : ℕ) → task_of words ≡ Some (Twin site file folder workers) → Caused (twin_script tape site file folder)
+  pub twin_caused : (site : Site) (file folder : List ℕ) (workers : ℕ) → task_of words ≡ Some (Twin site file folder workers) → Caused (twin_script of_each tape site file folder)
   twin_caused site file folder workers e = in_inputs told (Refused rose told words) file _ (λ name is h. inl ((Twin site file folder workers, e, is), h))
       (λ net text hn ht line cause is. inl (record { task = Twin site file folder workers; asked = e; net = net; text = text; net_held = hn; text_held = ht; is = is }))
       (λ s sql inputs. let twin : AskedTwin told words = record { site = site; file = file; folder = folder; workers = workers; s = s; sql = sql; asked = e; inputs = inputs } in
@@ -101,22 +101,22 @@ module _ (tape : Tape) (rose : Who → Type 0) (told : Told) (words : List (List
 module _ (tape : Tape) (told : Told) (words : List (List ℕ)) where
   query_text : (w : TwoWorlds) (desk : Option DeskHeld) (Q : List ℕ → Told → Type 0) (number : ℕ) (query : Query) (next : Script) →
       ((ticket : ℕ) (text : List ℕ) → ticket < 2 ^ 40 → IsNext desk ticket → IsTwinText tape w number ticket query text → Texts (with_taken (with_desk told desk)) (λ more now. Q (text ++ more) now) next) →
-      Texts (with_desk told desk) Q (twin_query tape w number query next)
+      Texts (with_desk told desk) Q (twin_query of_each tape w number query next)
   query_text w desk Q number query next more = let now : Told = with_desk told desk in
       bound_text now Q w.schema query _ (λ plan binds. text_large now Q _ (units_over w.schema plan.root w.first.a w.first.b) (λ units fits.
       text_given now Q _ (λ ticket few is. more ticket _ few is (record { taken = record { plan = plan; binds = binds; units = units; fits = fits }; printed = refl }))))
 
-  queries_text : (agreed : TwinAgreed told words) → Texts told (IsTwinned tape told words) (twins_script tape (worlds_of agreed.valid.rows) 1 agreed.valid.rows.all.queries)
+  queries_text : (agreed : TwinAgreed told words) → Texts told (IsTwinned tape told words) (twins_script of_each tape (worlds_of agreed.valid.rows) 1 agreed.valid.rows.all.queries)
   queries_text agreed = let w : TwoWorlds = worlds_of agreed.valid.rows in
-      numbered_text told (IsTwinText tape w) (twin_query tape w) (query_text w) (IsTwinned tape told words) agreed.valid.rows.all.queries (λ text twins. record { agreed = agreed; twins = twins; given = refl })
+      numbered_text told (IsTwinText tape w) (twin_query of_each tape w) (query_text w) (IsTwinned tape told words) agreed.valid.rows.all.queries (λ text twins. record { agreed = agreed; twins = twins; given = refl })
 
-  worlds_text : (rows : TwinRows told words) → Texts told (IsTwinned tape told words) (judging_worlds rows.all.twin.site rows.all.twin.s rows.first (second_tables rows) (λ w. twins_script tape w 1 rows.all.queries))
+  worlds_text : (rows : TwinRows told words) → Texts told (IsTwinned tape told words) (judging_worlds rows.all.twin.site rows.all.twin.s rows.first (second_tables rows) (λ w. twins_script of_each tape w 1 rows.all.queries))
   worlds_text rows = let s : SchemaModel = rows.all.twin.s in let Q : List ℕ → Told → Type 0 = IsTwinned tape told words in
       text_judged told Q A 0 s.tables rows.first.a _ (λ va. text_judged told Q B 0 s.tables rows.first.b _ (λ vb. text_judged told Q (other_site rows.all.twin.site) 0 s.tables (second_tables rows) _ (λ vc.
       λ spot is. text_compared told Q s (other_tables rows.all.twin.site rows.first) (second_tables rows) _ spot is
       (λ same. queries_text (record { valid = record { rows = rows; a = va; b = vb; second = vc }; agree = same })))))
 
-  pub twin_text : (site : Site) (file folder : List ℕ) (workers : ℕ) → task_of words ≡ Some (Twin site file folder workers) → Texts told (IsTwinned tape told words) (twin_script tape site file folder)
+  pub twin_text : (site : Site) (file folder : List ℕ) (workers : ℕ) → task_of words ≡ Some (Twin site file folder workers) → Texts told (IsTwinned tape told words) (twin_script of_each tape site file folder)
   twin_text site file folder workers e = let Q : List ℕ → Told → Type 0 = IsTwinned tape told words in
       text_inputs told Q file _ (λ s sql inputs. let twin : AskedTwin told words = record { site = site; file = file; folder = folder; workers = workers; s = s; sql = sql; asked = e; inputs = inputs } in
       text_each told (finding folder) (λ t text. Holds told.files (rows_file folder t) text) Q (λ t next more text h. more text h) s.tables _ (λ texts held.

@@ -12,12 +12,13 @@ use Rattle.pdn_view.specs.declared.view.Party.{Party}
 use Rattle.pdn_view.specs.declared.view.Party.TheVariants as party
 use Rattle.pdn_broker.specs.Runs.{Tape}
 use Rattle.pdn_broker.specs.Views.{party_of}
+use Rattle.pdn_twin.specs.Twins.{TwinWords}
 use Rattle.pdn_query.specs.Script.{Script, refuse}
 use Rattle.pdn_query.specs.Showing.{all_parties, parties_of}
 use Rattle.pdn_commands.specs.Script.{with_inputs, with_queries, load_script}
 use Rattle.pdn_commands.specs.Running.{queries_script}
 use Rattle.pdn_commands.specs.Checking.{report_script}
-use Rattle.pdn_commands.specs.Twinning.{twin_script}
+use Rattle.pdn_commands.specs.Twinning.{of_each, of_first, twin_script}
 use Rattle.pdn_commands.specs.declared.command.Command.{Command}
 use Rattle.pdn_commands.specs.declared.command.Command.TheVariants as command
 
@@ -133,16 +134,21 @@ run_script tape parties file = with_inputs file (λ s sql. with_queries sql (que
 abbrev pub check_script : List ℕ → Script
 check_script file = with_inputs file (λ s sql. with_queries sql (report_script s))
 
-abbrev pub task_script : Tape → Option Task → Script
-task_script tape None = refuse status.Words
-task_script tape (Some (Run file workers parties)) = run_script tape parties file
-task_script tape (Some (Check file)) = check_script file
-task_script tape (Some (Twin site file folder workers)) = twin_script tape site file folder
-task_script tape (Some (Load site table number file)) = load_script site table number file
+-- what a task asks for, on this tape, where a twin is put with these views
+abbrev pub task_script : (TwinWords → TwinWords) → Tape → Option Task → Script
+task_script views tape None = refuse status.Words
+task_script views tape (Some (Run file workers parties)) = run_script tape parties file
+task_script views tape (Some (Check file)) = check_script file
+task_script views tape (Some (Twin site file folder workers)) = twin_script views tape site file folder
+task_script views tape (Some (Load site table number file)) = load_script site table number file
 
 -- what the words ask for, on this tape
 abbrev pub script : Tape → List (List ℕ) → Script
-script tape words = task_script tape (task_of words)
+script tape words = task_script of_each tape (task_of words)
+
+-- the same, but that a twin is put with the first world's view in both places
+abbrev pub one_view_script : Tape → List (List ℕ) → Script
+one_view_script tape words = task_script of_first tape (task_of words)
 
 -- Where no views are asked for, the script is the same on every tape.
 abbrev pub SameOnTapes : Type 0

@@ -79,6 +79,23 @@ abbrev pub EqualViewsLaw : Type 0
 EqualViewsLaw = (tape : Tape) (w : TwoWorlds) (root : Node) (units : List UnitModel) (ticket : ℕ) → IsPrepared (first_ready w root units) → Agree w.site w.schema w.first w.second
     → AreTables w.schema w.second.a → AreTables w.schema w.second.b → (twin_words tape w root units ticket).second ≡ (twin_words tape w root units ticket).first
 
+-- ---- which views are put
+
+-- the first world's, and the second's
+abbrev pub of_each : TwinWords → TwinWords
+of_each twin = twin
+
+-- the first world's in both places
+abbrev pub of_first : TwinWords → TwinWords
+of_first twin = record { first = twin.first; second = twin.first; changed = twin.changed }
+
+abbrev pub HasEqualViews : TwinWords → Type 0
+HasEqualViews twin = twin.second ≡ twin.first
+
+-- a twin whose views are equal stays as it is
+abbrev pub KeepsEqual : (TwinWords → TwinWords) → Type 0
+KeepsEqual views = (twin : TwinWords) → HasEqualViews twin → views twin ≡ twin
+
 -- ---- the text
 
 abbrev pub twin_line : Site → ℕ → ℕ → List ℕ
@@ -127,20 +144,20 @@ judging_worlds site s first tables next = judging A 0 s.tables first.a (judging 
 
 -- ---- what is said
 
--- a query's units must pass no limit; then it takes a ticket, and its twin is put
-abbrev pub twin_planned : Tape → TwoWorlds → ℕ → PlanModel → Script → Script
-twin_planned tape w number plan next = or_large (λ units. ticketing (λ ticket. Say (twin_text w.site number ticket (twin_words tape w plan.root units ticket)) next))
+-- a query's units must pass no limit; then it takes a ticket, and its twin is put, with these views
+abbrev pub twin_planned : (TwinWords → TwinWords) → Tape → TwoWorlds → ℕ → PlanModel → Script → Script
+twin_planned views tape w number plan next = or_large (λ units. ticketing (λ ticket. Say (twin_text w.site number ticket (views (twin_words tape w plan.root units ticket))) next))
     (units_over w.schema plan.root w.first.a w.first.b)
 
-abbrev pub twin_query : Tape → TwoWorlds → ℕ → Query → Script → Script
-twin_query tape w number query next = binding w.schema query (λ plan. twin_planned tape w number plan next)
+abbrev pub twin_query : (TwinWords → TwinWords) → Tape → TwoWorlds → ℕ → Query → Script → Script
+twin_query views tape w number query next = binding w.schema query (λ plan. twin_planned views tape w number plan next)
 
 -- the twin of each query
-abbrev pub twins_script : Tape → TwoWorlds → ℕ → List Query → Script
-twins_script tape w = numbered (twin_query tape w)
+abbrev pub twins_script : (TwinWords → TwinWords) → Tape → TwoWorlds → ℕ → List Query → Script
+twins_script views tape w = numbered (twin_query views tape w)
 
 -- Each table's file in the folder is read, and the queries; then the rows of those files, and the rows that both sites keep.
-abbrev pub twin_script : Tape → Site → List ℕ → List ℕ → Script
-twin_script tape site file folder = with_inputs file (λ s sql. each (finding folder) s.tables (λ texts. with_queries sql (λ queries.
+abbrev pub twin_script : (TwinWords → TwinWords) → Tape → Site → List ℕ → List ℕ → Script
+twin_script views tape site file folder = with_inputs file (λ s sql. each (finding folder) s.tables (λ texts. with_queries sql (λ queries.
     each importing_file (zip s.tables texts) (λ given. keeping_both s (λ first.
-    judging_worlds site s first (given_tables given (other_tables site first)) (λ w. twins_script tape w 1 queries))))))
+    judging_worlds site s first (given_tables given (other_tables site first)) (λ w. twins_script views tape w 1 queries))))))

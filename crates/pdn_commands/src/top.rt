@@ -3,8 +3,10 @@ ghost use Rattle.std.specs.Prelude.{◌≡◌, ◌⊎◌, map, false};
 ghost use Rattle.std.specs.String.{string_bytes};
 ghost use Rattle.pdn_base.specs.declared.site.Site.TheVariants.{A, B};
 ghost use Rattle.pdn_base.specs.declared.status.Who.{Who};
+ghost use Rattle.pdn_twin.specs.Twins.{TwinWords};
 ghost use Rattle.pdn_commands.specs.Outcomes.{HasCause, IsAllDone};
-ghost use Rattle.pdn_commands.specs.Commands.{script, task_of, loads, runs};
+ghost use Rattle.pdn_commands.specs.Commands.{script, one_view_script, task_script, task_of, loads, runs};
+ghost use Rattle.pdn_commands.specs.Twinning.{KeepsEqual};
 ghost use Rattle.pdn_query.specs.Questions.{OnlyDesk};
 ghost use Rattle.pdn_query.specs.DeskCalls.{AsksTickets};
 ghost use Rattle.pdn_query.specs.Walk.{Along, Answered, NoMemory, Wrote, Clears, HasReason, IsDue};
@@ -39,9 +41,12 @@ pub fn pdn<R: Threads + Sync, W: Outside, D: Deal + Watch>(
     ensures answers { Answered (W.state world.old) (W.state world.new)
         (script (D.tape deal.now) (map string_bytes words.now)) result }
 
+    // Both views of a twin are equal: it is also what the script says that puts the first world's view in both places.
+    ensures equal { Answered (W.state world.old) (W.state world.new)
+        (one_view_script (D.tape deal.now) (map string_bytes words.now)) result }
+
     // Done comes only with the answer of each query over the rows of both sites, the schema with the report of each query, the
-    // line of the batch that is then kept, or the twin of each query in two worlds that agree in what is public. That both views of
-    // such a twin are equal is `twins_have_equal_views`.
+    // line of the batch that is then kept, or the twin of each query in two worlds that agree in what is public.
     ensures counted { let old = W.state world.old in let new = W.state world.new in
         result ≡ Status.Done → Wrote old.written new.written (λ text.
         IsAllDone (D.tape deal.now) old.told (map string_bytes words.now) text new.told) }
@@ -96,6 +101,8 @@ fn perform<R: Threads + Sync, W: Outside, D: Deal + Watch>(
 ) -> Status
     ensures answers { Answered (W.state world.old) (W.state world.new)
         (script (D.tape deal.now) (map string_bytes words.now)) result }
+    ensures equal { Answered (W.state world.old) (W.state world.new)
+        (one_view_script (D.tape deal.now) (map string_bytes words.now)) result }
     ensures kept_a { loads A (task_of (map string_bytes words.now)) ≡ false
         → (W.state world.new).told.a ≡ (W.state world.old).told.a }
     ensures kept_b { loads B (task_of (map string_bytes words.now)) ≡ false
@@ -118,8 +125,10 @@ fn follow<R: Threads + Sync, W: Outside, D: Deal + Watch>(
     world: &mut W,
     deal: &D,
 ) -> Result<(), Stop>
-    ensures goes { Along (W.state world.old) (W.state world.new)
-        (script (D.tape deal.now) (map string_bytes words.now)) (end_of result) }
+    ensures goes { (views : TwinWords → TwinWords) → KeepsEqual views →
+        Along (W.state world.old) (W.state world.new)
+        (task_script views (D.tape deal.now) (task_of (map string_bytes words.now)))
+        (end_of result) }
     ensures kept_a { loads A (task_of (map string_bytes words.now)) ≡ false
         → (W.state world.new).told.a ≡ (W.state world.old).told.a }
     ensures kept_b { loads B (task_of (map string_bytes words.now)) ≡ false

@@ -9,6 +9,7 @@ ghost use Rattle.pdn_agree.specs.EqualShapes.{ShapesLaw};
 ghost use Rattle.pdn_schema.specs.Rows.{AreValid};
 ghost use Rattle.pdn_broker.specs.Prepared.{IsPrepared};
 ghost use Rattle.pdn_worlds.specs.TwoWorlds.{AreWorlds};
+ghost use Rattle.pdn_twin.specs.Twins.{TwinWords};
 ghost use Rattle.pdn_query.specs.Answering.{or_large, units_over};
 ghost use Rattle.pdn_query.specs.Gathering.{NotReady, AreReady};
 ghost use Rattle.pdn_query.specs.Questions.{OnlyDesk};
@@ -16,7 +17,7 @@ ghost use Rattle.pdn_query.specs.Script.{Script};
 ghost use Rattle.pdn_query.specs.Walk.{Came, Along};
 ghost use Rattle.pdn_query.specs.World.{WorldModel};
 ghost use Rattle.pdn_commands.specs.HandedOn.{AreReadyWorlds};
-ghost use Rattle.pdn_commands.specs.Twinning.{twin_of, twin_text, twin_query, twins_script, twin_script};
+ghost use Rattle.pdn_commands.specs.Twinning.{KeepsEqual, HasEqualViews, twin_of, twin_text, twin_query, twins_script, twin_script};
 ghost use Rattle.pdn_script.specs.Stops.{end_of};
 
 use crate::folder::texts_in;
@@ -52,8 +53,9 @@ pub fn twin<R: Threads + Sync, W: Outside, D: Deal + Watch>(
     world: &mut W,
     crew: &Crew<'_, R, D>,
 ) -> Result<(), Stop>
-    ensures goes { Along (W.state world.old) (W.state world.new)
-        (twin_script (D.tape crew.now.deal.now) asked.entry.site asked.entry.file.now
+    ensures goes { (views : TwinWords → TwinWords) → KeepsEqual views →
+        Along (W.state world.old) (W.state world.new)
+        (twin_script views (D.tape crew.now.deal.now) asked.entry.site asked.entry.file.now
         asked.entry.folder.now) (end_of result) }
     ensures only { OnlyDesk (W.state world.old).told (W.state world.new).told }
 {
@@ -74,8 +76,9 @@ fn twin_all<R: Threads + Sync, W: Outside, D: Deal + Watch>(
     crew: &Crew<'_, R, D>,
 ) -> Result<(), Stop>
     requires { AllByRecursion IsWritten queries.now }
-    ensures goes { Along (W.state world.old) (W.state world.new)
-        (twins_script (D.tape crew.now.deal.now) worlds.now 1 queries.now) (end_of result) }
+    ensures goes { (views : TwinWords → TwinWords) → KeepsEqual views →
+        Along (W.state world.old) (W.state world.new)
+        (twins_script views (D.tape crew.now.deal.now) worlds.now 1 queries.now) (end_of result) }
     ensures only { OnlyDesk (W.state world.old).told (W.state world.new).told }
 {
     for (i, query) in queries.iter().enumerate() {
@@ -94,35 +97,43 @@ fn twin_query<R: Threads + Sync, W: Outside, D: Deal + Watch>(
     crew: &Crew<'_, R, D>,
 ) -> Result<(), Stop>
     requires written { IsWritten query.now }
-    ensures came { (rest : Script) →
+    ensures came { (views : TwinWords → TwinWords) → KeepsEqual views → (rest : Script) →
         Came (W.state world.old) (W.state world.new)
-        (twin_query (D.tape crew.now.deal.now) worlds.now number query.now rest)
+        (twin_query views (D.tape crew.now.deal.now) worlds.now number query.now rest)
         (λ _. rest) result }
     ensures only { OnlyDesk (W.state world.old).told (W.state world.new).told }
 {
     let plan = bound(alloc, &worlds.schema, query)?;
     let both = ready_in_both(alloc, worlds, &plan)?;
     let ticket = next_ticket(alloc, world)?;
-    let text = twinned(alloc, both, number, ticket, crew.deal)?;
+    let text = twinned(alloc, both, number, ticket, crew)?;
     say(world, &text)
 }
 
-// The text of a query's twin, where it is made ready in both worlds.
-#[tactic(auto, unfolding(crate::specs::Twinning::twin_of))]
-fn twinned<D: Deal>(
+// The text of a query's twin, where it is made ready in both worlds. Both of its views are equal.
+fn twinned<R: Threads + Sync, D: Deal + Watch>(
     alloc: Global,
     worlds: Worlds,
     number: u64,
     ticket: u64,
-    deal: &D,
+    crew: &Crew<'_, R, D>,
 ) -> Result<Vec<u8>, Memory>
     requires alike { AreWorlds worlds.site worlds.first worlds.second }
     requires there { ticket < 2 ^ 40 }
-    ensures { IfOk result (λ text. text.items ≡ twin_text worlds.site number ticket
-        (twin_of worlds.site worlds.first worlds.second (D.tape deal.now) ticket)) }
+    ensures is { IfOk result (λ text. text.items ≡ twin_text worlds.site number ticket
+        (twin_of worlds.site worlds.first worlds.second (D.tape crew.now.deal.now) ticket)) }
+    ensures equal { IfOk result (λ _. HasEqualViews
+        (twin_of worlds.site worlds.first worlds.second (D.tape crew.now.deal.now) ticket)) }
 {
     let site = worlds.site;
-    let twin = twin_in(alloc, worlds, ticket, deal)?;
+    let twin = twin_in(
+        crew.rt,
+        alloc,
+        worlds,
+        ticket,
+        crew.deal,
+        crew.workers.count,
+    )?;
     twin_text(alloc, site, number, ticket, &twin)
 }
 

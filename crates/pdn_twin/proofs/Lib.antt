@@ -1,3 +1,4 @@
 pub mod SectionWords
 pub mod WorldLaws
 pub mod TwinLaws
+pub mod Crossing

@@ -1,14 +1,18 @@
 -- The runs of a query's units in two worlds, the second on the changed tape.
-use Rattle.std.proofs.Common.{◌≡◌, ℕ, zero, suc, ◌+◌, ◌-◌, ◌<◌, Bool, true, cond, List, [], ◌∷◌, ◌++◌, length, get_or, map, refl, sym, ap, ap₂, ◌∙◌, subst, arith, append-nil}
+use Rattle.std.proofs.Common.{◌≡◌, ℕ, zero, suc, ◌+◌, ◌-◌, ◌<◌, Bool, true, cond, List, [], ◌∷◌, ◌++◌, length, get_or, map, refl, sym, ap, ap₂, ◌∙◌, subst, arith, append-nil, Result, Ok, Err, IfOk}
 use Rattle.std.specs.Prelude.{nat_lt}
 use Rattle.std.proofs.lemmas.Bool.{and_from, lt-ltb}
 use Rattle.std.proofs.lemmas.List.{map-append}
+use Rattle.std.specs.declared.alloc.Global.{Global}
+use Rattle.std.specs.declared.vec.Vec.{Vec}
 use Rattle.pdn_base.specs.declared.site.Site.{Site}
 use Rattle.pdn_circuit.specs.Gates.{Net, InputWords}
 use Rattle.pdn_dealer.specs.Sections.{layout_of, section_length}
 use Rattle.pdn_dealer.specs.Tapes.{first_words}
 use Rattle.pdn_gmw.specs.Pairs.{Run}
+use Rattle.pdn_gmw.proofs.Meeting.{length-first_words}
 use Rattle.pdn_shift.specs.Changes.{shift_words}
+use Rattle.pdn_pool.specs.Results.{EachGives}
 use Rattle.pdn_site.specs.declared.unit.UnitKind.{UnitKind}
 use Rattle.pdn_site.specs.declared.unit.UnitKind.TheVariants.{Plain, Secure, Root}
 use Rattle.pdn_site.specs.Models.{UnitModel}
@@ -16,11 +20,11 @@ use Rattle.pdn_site.specs.Engines.{no_unit}
 use Rattle.pdn_broker.specs.Runs.{Tape, Takes, run_on, section_at}
 use Rattle.pdn_broker.specs.Units.{UnitsTell, net_or, is_secure, is_dealt, numbers_upto, secure_numbers}
 use Rattle.pdn_broker.specs.Prepared.{PreparedModel, IsPrepared}
-use Rattle.pdn_broker.specs.Running.{unit_at, root_number, run_at, secure_run, secure_runs, outputs_of, root_run, runs_of}
+use Rattle.pdn_broker.specs.Running.{unit_at, root_number, root_of, run_at, secure_run, secure_runs, outputs_of, root_run, runs_of}
 use Rattle.pdn_broker.proofs.UnitLaws.{compiled_tell}
 use Rattle.pdn_broker.proofs.PreparedLaws.{secure_kind, secure_takes, root_fits}
 use Rattle.pdn_broker.proofs.UnitPlaces.{before_root, numbers_more, secure_is_dealt}
-use Rattle.pdn_worlds.specs.PlainWords.{net_at, secure_plain, root_plain, plain_by}
+use Rattle.pdn_worlds.specs.PlainWords.{net_at, secure_plain, root_plain, plain_by, plain_at}
 use Rattle.pdn_worlds.specs.TapeChange.{section_length_at, has_section, section_words, changed_words, shift_tape}
 use Rattle.pdn_worlds.proofs.TapeLaws.{changed_is_read}
 use Rattle.pdn_worlds.proofs.QueryLaws.{root_runs_on}
@@ -28,7 +32,7 @@ use Rattle.pdn_twin.specs.declared.starts.Start.{Start}
 use Rattle.pdn_twin.specs.declared.starts.Starts.{Starts}
 use Rattle.pdn_twin.specs.declared.unit_twin.UnitTwin.{UnitTwin}
 use Rattle.pdn_twin.specs.Twins.{ChangeWords, differing, change_at, changes}
-use Rattle.pdn_twin.specs.UnitTwins.{changed_section, start_on, twin_on, secure_start, root_start, secure_starts, secure_twin, secure_twins, root_twin}
+use Rattle.pdn_twin.specs.UnitTwins.{plain, changed_section, start_on, twin_on, secure_start, root_start, secure_starts, secure_twin, secure_twins, root_twin}
 
 -- ---- the root is the last unit, and the only one of its kind
 tells : (p : PreparedModel) → IsPrepared p → UnitsTell p.a.schema p.a.tables p.b.tables p.a.root p.units
@@ -84,6 +88,18 @@ pub root_takes : (p : PreparedModel) → IsPrepared p → (tape : Tape) (ticket 
     → Takes net start.own start.given
 root_takes p is tape ticket u net start runs e n s r =
     starts_as net (net_at p (root_number p)) start (root_start p (secure_runs p tape ticket)) (n ∙ ap (net_at p) e) (s ∙ ap (root_start p) r) (root_fits p is tape ticket)
+
+-- ---- jobs, each of which gives what it is seen as
+each_given : {X : Type 0} (jobs outs : List X) → length outs ≡ length jobs → EachGives (λ (job out : X). out ≡ job) jobs outs → outs ≡ jobs
+each_given [] [] l e = refl
+each_given [] (o ∷ os) l e = absurd (omega (arith, l))
+each_given (j ∷ js) [] l e = absurd (omega (arith, l))
+each_given (j ∷ js) (o ∷ os) l e = ap₂ (λ x xs. x ∷ xs) (e 0 j o (omega arith)) (each_given js os (omega (arith, l)) (λ i job out h. e (suc i) job out (omega (arith, h))))
+
+pub twins_given : {E : Type 0} (jobs twins : List UnitTwin) (r : Result (Vec UnitTwin Global) E) → IfOk r (λ outs. length outs.items ≡ length jobs)
+    → IfOk r (λ outs. EachGives (λ (job twin : UnitTwin). twin ≡ job) jobs outs.items) → jobs ≡ twins → IfOk r (λ outs. outs.items ≡ twins)
+twins_given jobs twins (Ok outs) count each are = each_given jobs outs.items count each ∙ are
+twins_given jobs twins (Err e) count each are = count
 
 -- ---- one unit, where both worlds have the same units
 module _ (site : Site) (p q : PreparedModel) (same : q.units ≡ p.units) where

@@ -1,5 +1,5 @@
 -- A query in two worlds: a site's view in each, and where the tape is changed.
-use Rattle.std.specs.Prelude.{◌≡◌, ℕ, Bool, not, ◌==◌, List, length, map, filter, slice_index}
+use Rattle.std.specs.Prelude.{◌≡◌, ℕ, Bool, not, ◌==◌, List, [], length, map, filter, slice_index}
 use Rattle.std.specs.List.{range_with_len}
 use Rattle.pdn_base.specs.declared.site.Site.{Site}
 use Rattle.pdn_view.specs.Views.{ViewWords}

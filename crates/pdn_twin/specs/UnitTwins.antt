@@ -8,7 +8,7 @@ use Rattle.pdn_shift.specs.Changes.{shift_words}
 use Rattle.pdn_broker.specs.Runs.{Tape, world, run_on}
 use Rattle.pdn_broker.specs.Answering.{nothing_given}
 use Rattle.pdn_broker.specs.Units.{secure_numbers}
-use Rattle.pdn_broker.specs.Running.{unit_at, root_number, engines_own, secure_run, outputs_of, root_run}
+use Rattle.pdn_broker.specs.Running.{unit_at, root_number, engines_own, secure_run, secure_runs, outputs_of, root_run}
 use Rattle.pdn_broker.specs.Prepared.{PreparedModel}
 use Rattle.pdn_worlds.specs.TapeChange.{shift_tape}
 use Rattle.pdn_twin.specs.declared.starts.Start.{Start}

@@ -2,8 +2,8 @@
 #![tactic(auto)]
 
 mod runs;
-mod secure_unit;
 mod starts;
+mod twin_job;
 mod twinning;
 mod twins;
 mod unit_twin;

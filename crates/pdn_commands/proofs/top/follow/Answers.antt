@@ -8,20 +8,20 @@ use Rattle.pdn_commands.proofs.Tasks.{kept_a, kept_b, run_takes, twin_takes, loa
 use Rattle.pdn_commands.proofs.top.follow.Goals as goal
 
 pub returns-in-Some-Run-clause-goes : goal.returns-in-Some-Run-clause-goes
-returns-in-Some-Run-clause-goes g c = asked (g.D.Deal.tape c.args.deal.now) (map string_bytes c.args.words.now) (Some (Run c.in-Some-Run.file.now _ _)) (rw (c.in-Some-Run.field-0-is) at c.in-Some-Run.ensures) c.run.ensures.goes
+returns-in-Some-Run-clause-goes g c = λ views keeps. asked views (g.D.Deal.tape c.args.deal.now) (map string_bytes c.args.words.now) (Some (Run c.in-Some-Run.file.now _ _)) (rw (c.in-Some-Run.field-0-is) at c.in-Some-Run.ensures) c.run.ensures.goes
 
 pub returns-in-Some-Check-clause-goes : goal.returns-in-Some-Check-clause-goes
-returns-in-Some-Check-clause-goes g c = asked (g.D.Deal.tape c.args.deal.now) (map string_bytes c.args.words.now) (Some (Check c.in-Some-Check.file.now)) (rw (c.in-Some-Check.field-0-is) at c.in-Some-Check.ensures) c.check.ensures.goes
+returns-in-Some-Check-clause-goes g c = λ views keeps. asked views (g.D.Deal.tape c.args.deal.now) (map string_bytes c.args.words.now) (Some (Check c.in-Some-Check.file.now)) (rw (c.in-Some-Check.field-0-is) at c.in-Some-Check.ensures) c.check.ensures.goes
 
 pub returns-in-Some-Twin-clause-goes : goal.returns-in-Some-Twin-clause-goes
-returns-in-Some-Twin-clause-goes g c = asked (g.D.Deal.tape c.args.deal.now) (map string_bytes c.args.words.now) (Some (Twin c.in-Some-Twin.site c.in-Some-Twin.file.now c.in-Some-Twin.folder.now _))
-    (rw (c.in-Some-Twin.field-0-is) at c.in-Some-Twin.ensures) c.twin.ensures.goes
+returns-in-Some-Twin-clause-goes g c = λ views keeps. asked views (g.D.Deal.tape c.args.deal.now) (map string_bytes c.args.words.now) (Some (Twin c.in-Some-Twin.site c.in-Some-Twin.file.now c.in-Some-Twin.folder.now _))
+    (rw (c.in-Some-Twin.field-0-is) at c.in-Some-Twin.ensures) (c.twin.ensures.goes views keeps)
 
 pub returns-in-Some-Twin-clause-desk : goal.returns-in-Some-Twin-clause-desk
 returns-in-Some-Twin-clause-desk g c = twin_takes c.in-Some-Twin.site c.in-Some-Twin.file.now c.in-Some-Twin.folder.now _ _ (rw (c.in-Some-Twin.field-0-is) at c.in-Some-Twin.ensures)
 
 pub returns-in-Some-Load-clause-goes : goal.returns-in-Some-Load-clause-goes
-returns-in-Some-Load-clause-goes g c = asked (g.D.Deal.tape c.args.deal.now) (map string_bytes c.args.words.now) (Some (Load c.in-Some-Load.site c.in-Some-Load.table.now c.in-Some-Load.batch c.in-Some-Load.file.now))
+returns-in-Some-Load-clause-goes g c = λ views keeps. asked views (g.D.Deal.tape c.args.deal.now) (map string_bytes c.args.words.now) (Some (Load c.in-Some-Load.site c.in-Some-Load.table.now c.in-Some-Load.batch c.in-Some-Load.file.now))
     (rw (c.in-Some-Load.field-0-is) at c.in-Some-Load.ensures) c.load.ensures.goes
 
 pub returns-in-Some-Load-clause-kept_a : goal.returns-in-Some-Load-clause-kept_a
@@ -37,4 +37,4 @@ pub returns-in-Some-Load-clause-desk : goal.returns-in-Some-Load-clause-desk
 returns-in-Some-Load-clause-desk g c = λ off. load_takes_none c.in-Some-Load.site _ _ c.load.ensures.only
 
 pub returns-in-None-clause-goes : goal.returns-in-None-clause-goes
-returns-in-None-clause-goes g c = asked (g.D.Deal.tape c.args.deal.now) (map string_bytes c.args.words.now) None c.in-None.ensures (refused _ [] [] status.Words _ c.refused.ensures)
+returns-in-None-clause-goes g c = λ views keeps. asked views (g.D.Deal.tape c.args.deal.now) (map string_bytes c.args.words.now) None c.in-None.ensures (refused _ [] [] status.Words _ c.refused.ensures)

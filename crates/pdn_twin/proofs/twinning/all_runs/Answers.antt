@@ -3,9 +3,6 @@ use Rattle.pdn_twin.proofs.WorldLaws.{same_units}
 use Rattle.pdn_twin.proofs.TwinLaws.{first_runs, second_runs, secure_changes, all_first, all_second, all_changes}
 use Rattle.pdn_twin.proofs.twinning.all_runs.Goals as goal
 
-pub secure_twins-requires-after_bounds : goal.secure_twins-requires-after_bounds
-secure_twins-requires-after_bounds g c κs within = same_units c.args.worlds.now.site c.args.worlds.now.first c.args.worlds.now.second c.requires.alike
-
 pub root_twin-requires-clause-runs : goal.root_twin-requires-clause-runs
 root_twin-requires-clause-runs g c κs within =
     let site = c.args.worlds.now.site in

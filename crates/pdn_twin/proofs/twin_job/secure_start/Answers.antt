@@ -1,7 +1,8 @@
 use Rattle.std.proofs.Common.{ap₂}
 use Rattle.pdn_broker.specs.Runs.{Both}
+use Rattle.pdn_twin.specs.declared.starts.Start.{Start}
 use Rattle.pdn_twin.proofs.TwinLaws.{secure_fits}
-use Rattle.pdn_twin.proofs.secure_unit.secure_start.Goals as goal
+use Rattle.pdn_twin.proofs.twin_job.secure_start.Goals as goal
 
 pub returns-clause-takes : goal.returns-clause-takes
 returns-clause-takes c =

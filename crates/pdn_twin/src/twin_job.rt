@@ -1,11 +1,13 @@
-//! A secure unit's run in two worlds.
+//! A secure unit's run in two worlds, as a job.
 ghost use Rattle.std.specs.Prelude.{◌≡◌, ◌<◌, true, length, IfOk};
+ghost use Rattle.std.specs.Coded.{codes};
+ghost use Rattle.std.proofs.Props.{props};
 ghost use Rattle.pdn_broker.specs.Runs.{Takes};
 ghost use Rattle.pdn_broker.specs.Units.{is_secure};
 ghost use Rattle.pdn_broker.specs.Running.{unit_at};
 ghost use Rattle.pdn_worlds.specs.PlainWords.{net_at};
 ghost use Rattle.pdn_worlds.specs.TapeChange.{section_length_at};
-ghost use Rattle.pdn_twin.specs.UnitTwins.{secure_start, secure_starts, secure_twin as dealt_twin, twin_on};
+ghost use Rattle.pdn_twin.specs.UnitTwins.{secure_start, secure_starts, twin_on};
 
 use crate::starts::{Start, Starts};
 use crate::twins::Worlds;
@@ -13,25 +15,42 @@ use crate::unit_twin::{UnitTwin, twin_on};
 use pdn_base::Memory;
 use pdn_broker::{Dealt, Prepared, Shares};
 use pdn_dealer::{Deal, Section, section_len};
+use pdn_pool::Job;
 use std::alloc::Global;
+use std::marker::Model;
 
 /// The run of a secure unit in two worlds, in the first on the section of a ticket and the unit's number, in the second on its change.
-pub(crate) fn dealt_twin<D: Deal>(
-    alloc: Global,
-    worlds: &Worlds,
-    at: Dealt,
-    deal: &D,
-) -> Result<UnitTwin, Memory>
-    requires same { worlds.now.second.units ≡ worlds.now.first.units }
-    requires in_range { at.unit < length worlds.now.first.units }
-    requires secure { is_secure (unit_at worlds.now.first at.unit).kind ≡ true }
-    ensures { IfOk result (λ twin.
-        twin ≡ dealt_twin worlds.now.site worlds.now.first worlds.now.second
-        (D.tape deal.now) at.ticket at.unit) }
-{
-    let len = section_len_at(&worlds.first, at.unit);
-    let section = deal.section(alloc, at.ticket, at.unit, len)?;
-    secure_twin(alloc, worlds, at.unit, section)
+/// Contracts see the job as what it gives.
+#[derive(Drop)]
+pub(crate) struct TwinJob<'a, D: Deal> {
+    pub worlds: &'a Worlds,
+    pub at: Dealt,
+    pub deal: &'a D,
+    ghost same: { worlds.now.second.units ≡ worlds.now.first.units } by { Prim.hlevel (props, codes) },
+    ghost in_range: { at.unit < length worlds.now.first.units },
+    ghost secure: { is_secure (unit_at worlds.now.first at.unit).kind ≡ true },
+}
+
+impl<'a, D: Deal> Model for TwinJob<'a, D> {
+    ghost use Rattle.pdn_twin.specs.declared.unit_twin.UnitTwin.{UnitTwin};
+    ghost use Rattle.pdn_twin.specs.UnitTwins.{secure_twin};
+
+    ghost Value = { UnitTwin };
+
+    ghost view = { λ job. secure_twin job.worlds.now.site job.worlds.now.first job.worlds.now.second
+        (D.tape job.deal.now) job.at.ticket job.at.unit };
+}
+
+impl<'a, D: Deal> Job for TwinJob<'a, D> {
+    type Out = UnitTwin;
+
+    ghost gives = { λ job twin. twin ≡ job };
+
+    fn run(&self, alloc: Global) -> Result<UnitTwin, Memory> {
+        let len = section_len_at(&self.worlds.first, self.at.unit);
+        let section = self.deal.section(alloc, self.at.ticket, self.at.unit, len)?;
+        secure_twin(alloc, self.worlds, self.at.unit, section)
+    }
 }
 
 /// How many words the section of a secure unit has.

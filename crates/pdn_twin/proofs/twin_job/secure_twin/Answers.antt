@@ -7,7 +7,7 @@ use Rattle.pdn_twin.specs.declared.starts.Start.{Start}
 use Rattle.pdn_twin.specs.declared.starts.Starts.{Starts}
 use Rattle.pdn_twin.specs.UnitTwins.{twin_on}
 use Rattle.pdn_twin.proofs.TwinLaws.{taken_as, second_net, second_secure, second_within}
-use Rattle.pdn_twin.proofs.secure_unit.secure_twin.Goals as goal
+use Rattle.pdn_twin.proofs.twin_job.secure_twin.Goals as goal
 
 pub secure_start-requires-2-clause-in_range : goal.secure_start-requires-2-clause-in_range
 secure_start-requires-2-clause-in_range c = second_within c.args.worlds.now.site c.args.worlds.now.first c.args.worlds.now.second c.requires.same c.args.unit c.requires.in_range
