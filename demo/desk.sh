@@ -22,6 +22,9 @@ sed 's/^floor 3$/floor 3\ncaller ann calls 2/' "$demo/net.schema" > net.schema
 "$crates/pdn/out/pdn" load b diag 0 "$demo/b_diag.csv"
 "$crates/pdn_serve/out/pdn_serve" "$port" 1 7 > ends &
 desk=$!
+# Where the port is another program's, the desk has ended by now.
+sleep 0.3
+kill -0 "$desk" 2>/dev/null || { cat ends; exit 1; }
 
 # Asks under a number of ann's, with a query or, for what is kept, without; shows the body and the status. Waits while nobody listens
 # yet, as long as the desk runs.
