@@ -95,12 +95,7 @@ fn answer_alone(
 
 // Says what a line means, and where in a file if a file's name stands behind a line that names a place. The line may be
 // one word or several.
-fn tell(
-    alloc: Global,
-    words: &[String],
-    files: &mut impl Files,
-    out: &mut impl Sink,
-) -> ExitCode {
+fn tell(alloc: Global, words: &[String], files: &mut impl Files, out: &mut impl Sink) -> ExitCode {
     if let [line @ .., file] = words {
         let Ok(line) = by_blanks(alloc, line) else {
             return ExitCode::from(Status::Memory.code());
@@ -118,12 +113,7 @@ fn tell_line(alloc: Global, words: &[String], out: &mut impl Sink) -> ExitCode {
     };
     match explain(line.as_str()) {
         Some(means) => say(alloc, means, ExitCode::SUCCESS, out),
-        None => say(
-            alloc,
-            NO_REFUSAL,
-            ExitCode::from(Status::Words.code()),
-            out,
-        ),
+        None => say(alloc, NO_REFUSAL, ExitCode::from(Status::Words.code()), out),
     }
 }
 

@@ -37,7 +37,7 @@ abbrev pub column_at : List ℕ → ℕ → ℕ
 column_at file place = count_by begins_character (line_before file place) + 1
 
 -- the line and the column of a place, its line as it is shown, and under the place a mark
-abbrev pub place_text : List ℕ → ℕ → List ℕ
+unfoldable pub place_text : List ℕ → ℕ → List ℕ
 place_text file place =
     codes "line " ++ decimal (line_at file place) ++ codes ", column " ++ decimal (column_at file place) ++ codes "\n"
     ++ map shown (line_before file place ++ line_behind file place) ++ codes "\n"

@@ -9,6 +9,7 @@ use std::alloc::Global;
 /// The line and the column of a place, both from 1 on, its line, and under the place a mark. A column counts characters: a
 /// byte of 128 to 191, which in UTF-8 goes on with one, counts none, and every other byte one. A tab and a carriage return
 /// are shown as a blank, every other control character as `?`, and the other bytes as they are.
+#[tactic(auto, unfolding(crate::specs::Places::place_text))]
 pub fn place_text(alloc: Global, file: &[u8], place: usize) -> Result<Vec<u8>, Memory>
     requires { place ≤ length file.now }
     ensures { IfOk result (λ text. text.items ≡ place_text file.now place) }
