@@ -2,8 +2,6 @@
 #![tactic(auto)]
 
 #[cfg(test)]
-mod bounds;
-#[cfg(test)]
 mod desk;
 #[cfg(test)]
 mod disks;
@@ -11,7 +9,3 @@ mod disks;
 mod form;
 #[cfg(test)]
 mod site;
-#[cfg(test)]
-mod stopping;
-#[cfg(test)]
-mod stops;
