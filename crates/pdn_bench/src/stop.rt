@@ -1,7 +1,6 @@
 //! Why nothing was measured.
 use pdn_base::Memory;
 use pdn_circuit::BuildErr;
-use pdn_view::ViewErr;
 use std::alloc::{AllocError, AllocFailed};
 use std::io;
 
@@ -10,10 +9,8 @@ use std::io;
 pub enum Stop {
     /// Memory ran out.
     Memory,
-    /// The circuit, or the text of a view, is too large.
+    /// The circuit is too large.
     Large,
-    /// A view that was printed is not read again.
-    Unread,
     /// The clock, or standard output, failed.
     Outside,
 }
@@ -39,15 +36,6 @@ impl<T: Drop> From<AllocFailed<T>> for Stop {
 impl From<BuildErr> for Stop {
     fn from(_: BuildErr) -> Stop {
         Stop::Large
-    }
-}
-
-impl From<ViewErr> for Stop {
-    fn from(e: ViewErr) -> Stop {
-        match e {
-            ViewErr::At { .. } => Stop::Unread,
-            ViewErr::Memory => Stop::Memory,
-        }
     }
 }
 
