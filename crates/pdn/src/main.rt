@@ -38,13 +38,8 @@ const VERSION: &str = "pdn 0.1.0\n";
 
 fn main(rt: HostRuntime) -> ExitCode {
     let alloc = rt.alloc();
-    let mut world = World {
-        files: RealFiles::new(&rt),
-        site_a: SqliteSite::open_at(rt, "a.db"),
-        site_b: SqliteSite::open_at(rt, "b.db"),
-        desk: SqliteDesk::open_at(rt, "desk.db"),
-        out: StdSink::new(io::writer(&rt)),
-    };
+    let mut files = RealFiles::new(&rt);
+    let mut out = StdSink::new(io::writer(&rt));
     let words = match words(&rt) {
         Ok(words) => words,
         Err(e) if e.kind() == ErrorKind::OutOfMemory => return ExitCode::from(
@@ -53,13 +48,20 @@ fn main(rt: HostRuntime) -> ExitCode {
         // Words that are no text are refused as no words are.
         Err(_) => Vec::new(alloc),
     };
-    if let Some(code) = answer_alone(alloc, &words, &mut world.files, &mut world.out) {
+    if let Some(code) = answer_alone(alloc, &words, &mut files, &mut out) {
         return code;
     }
-    let Some(deal) = dealer_there(alloc, &mut world.files) else {
+    let Some(deal) = dealer_there(alloc, &mut files) else {
         // Where this put fails, there is nothing left to say.
-        let _put = world.out.put(b"fault 1 tape.key\n");
+        let _put = out.put(b"fault 1 tape.key\n");
         return ExitCode::FAILURE;
+    };
+    let mut world = World {
+        files,
+        site_a: SqliteSite::open_at(rt, "a.db"),
+        site_b: SqliteSite::open_at(rt, "b.db"),
+        desk: SqliteDesk::open_at(rt, "desk.db"),
+        out,
     };
     let status = pdn(&rt, alloc, &words, &mut world, &deal);
     ExitCode::from(status.code())
