@@ -1,14 +1,16 @@
 //! The levels of a plan's nodes, and its segments.
 
-ghost use Rattle.std.specs.Prelude.{◌≡◌, IfOk, ◌++◌, ◌∷◌, [], ◌≤◌, length, get_or};
+ghost use Rattle.std.specs.Prelude.{◌≡◌, ◌||◌, IfOk, ◌++◌, ◌∷◌, [], ◌≤◌, false, map, length, get_or};
 ghost use Rattle.std.specs.List.{list_any, AllByRecursion};
 ghost use Rattle.pdn_level.specs.Cutting.{IsSound};
+ghost use Rattle.pdn_level.specs.Links.{slice_at};
+ghost use Rattle.pdn_level.specs.Slices.{among, linked};
 ghost use Rattle.pdn_level.specs.Levels.{is_secure, sliced_if, kept_level, first_slice, graded, level_of_node, leaf_of, leaves_of, segments_of};
 
 use crate::links::{link_at, links};
 use crate::slices::{linked, no_slices, partition_slices, scan_slices, slices_at, with_count};
 use crate::{Leaf, Level, Segment, Staged};
-use pdn_base::Memory;
+use pdn_base::{Cond, Memory};
 use pdn_schema::Schema;
 use pdn_tree::{Node, Plan};
 use std::alloc::Global;
@@ -69,12 +71,18 @@ fn kept_level(slices: &[bool], below: Level) -> Level
     }
 }
 
-/// A Filter or a Project.
-fn kept(slices: Vec<bool>, below: Level) -> Grades
-    ensures { result ≡ record { slices = slices.items; level = kept_level slices.items below } }
+/// A node above another that keeps its level where it still has slice columns.
+fn kept(below: Grades) -> Grades
+    ensures { result ≡ record {
+      slices = below.slices;
+      level = kept_level below.slices below.level;
+    } }
 {
-    let level = kept_level(slices.as_slice(), below);
-    Grades { slices, level }
+    let level = kept_level(below.slices.as_slice(), below.level);
+    Grades {
+        slices: below.slices,
+        level,
+    }
 }
 
 /// Any other node above what is read.
@@ -88,6 +96,76 @@ fn over(slices: Vec<bool>, secure_below: bool) -> Grades
     Grades { slices, level }
 }
 
+fn project_grades(alloc: Global, below: Grades, columns: &[u32]) -> Result<Grades, Memory>
+    ensures { IfOk result (λ g. g ≡ record {
+      slices = map (slice_at below.slices) columns.now;
+      level = kept_level (map (slice_at below.slices) columns.now) below.level;
+    }) }
+{
+    let slices = slices_at(alloc, below.slices.as_slice(), columns)?;
+    Ok(kept(Grades {
+        slices,
+        level: below.level,
+    }))
+}
+
+fn join_grades(alloc: Global, left: Grades, right: Grades, on: &Cond) -> Result<Grades, Memory>
+    ensures { IfOk result (λ g. g ≡ record {
+      slices = linked left.slices right.slices on.now;
+      level = sliced_if (linked left.slices right.slices on.now)
+          (is_secure left.level || is_secure right.level);
+    }) }
+{
+    let slices = linked(alloc, left.slices.as_slice(), right.slices.as_slice(), on)?;
+    Ok(over(slices, is_secure(left.level) || is_secure(right.level)))
+}
+
+/// A node whose last column is a count or a place.
+fn counted(slices: Vec<bool>, below: Level) -> Result<Grades, Memory>
+    ensures { IfOk result (λ g. g ≡ record {
+      slices = slices.items ++ false ∷ [];
+      level = sliced_if (slices.items ++ false ∷ []) (is_secure below);
+    }) }
+{
+    Ok(over(with_count(slices)?, is_secure(below)))
+}
+
+fn group_grades(alloc: Global, below: Grades, keys: &[u32]) -> Result<Grades, Memory>
+    ensures { IfOk result (λ g. g ≡ record {
+      slices = map (slice_at below.slices) keys.now ++ false ∷ [];
+      level = sliced_if (map (slice_at below.slices) keys.now ++ false ∷ [])
+          (is_secure below.level);
+    }) }
+{
+    counted(
+        slices_at(alloc, below.slices.as_slice(), keys)?,
+        below.level,
+    )
+}
+
+fn number_grades(alloc: Global, below: Grades, partition: &[u32]) -> Result<Grades, Memory>
+    ensures { IfOk result (λ g. g ≡ record {
+      slices = among partition.now below.slices ++ false ∷ [];
+      level = sliced_if (among partition.now below.slices ++ false ∷ [])
+          (is_secure below.level);
+    }) }
+{
+    counted(
+        partition_slices(alloc, below.slices.as_slice(), partition)?,
+        below.level,
+    )
+}
+
+fn top_grades(alloc: Global, below: Grades) -> Result<Grades, Memory>
+    ensures { IfOk result (λ g. g ≡ record {
+      slices = map (λ s. false) below.slices;
+      level = sliced_if (map (λ s. false) below.slices) (is_secure below.level);
+    }) }
+{
+    let slices = no_slices(alloc, below.slices.as_slice())?;
+    Ok(over(slices, is_secure(below.level)))
+}
+
 /// The slice columns and the level of a tree.
 fn grades_of(alloc: Global, schema: &Schema, node: &Node) -> Result<Grades, Memory>
     ensures { IfOk result (λ g. g ≡ graded schema.now node.now) }
@@ -97,34 +175,24 @@ fn grades_of(alloc: Global, schema: &Schema, node: &Node) -> Result<Grades, Memo
             slices: scan_slices(alloc, schema, *table)?,
             level: Level::Local,
         }),
-        Node::Filter { child, cond: _ } => {
-            let below = grades_of(alloc, schema, child.get())?;
-            Ok(kept(below.slices, below.level))
-        }
+        Node::Filter { child, .. } => Ok(kept(grades_of(alloc, schema, child.get())?)),
         Node::Project { child, columns } => {
             let below = grades_of(alloc, schema, child.get())?;
-            let slices = slices_at(alloc, below.slices.as_slice(), columns.as_slice())?;
-            Ok(kept(slices, below.level))
+            project_grades(alloc, below, columns.as_slice())
         }
         Node::Join { left, right, on } => {
             let l = grades_of(alloc, schema, left.get())?;
-            let r = grades_of(alloc, schema, right.get())?;
-            let slices = linked(alloc, l.slices.as_slice(), r.slices.as_slice(), on)?;
-            Ok(over(slices, is_secure(l.level) || is_secure(r.level)))
+            join_grades(alloc, l, grades_of(alloc, schema, right.get())?, on)
         }
-        Node::Group {
-            child,
-            keys,
-            having: _,
-        } => {
+        Node::Group { child, keys, .. } => {
             let below = grades_of(alloc, schema, child.get())?;
-            let of_keys = slices_at(alloc, below.slices.as_slice(), keys.as_slice())?;
-            Ok(over(with_count(of_keys)?, is_secure(below.level)))
+            group_grades(alloc, below, keys.as_slice())
         }
         Node::Count { child } => {
-            let below = grades_of(alloc, schema, child.get())?;
-            let slices = with_count(Vec::new(alloc))?;
-            Ok(over(slices, is_secure(below.level)))
+            counted(
+                Vec::new(alloc),
+                grades_of(alloc, schema, child.get())?.level,
+            )
         }
         Node::Distinct { child } => {
             let below = grades_of(alloc, schema, child.get())?;
@@ -133,21 +201,12 @@ fn grades_of(alloc: Global, schema: &Schema, node: &Node) -> Result<Grades, Memo
         Node::Number {
             child,
             partition,
-            order: _,
+            ..
         } => {
             let below = grades_of(alloc, schema, child.get())?;
-            let of_rows = partition_slices(alloc, below.slices.as_slice(), partition.as_slice())?;
-            Ok(over(with_count(of_rows)?, is_secure(below.level)))
+            number_grades(alloc, below, partition.as_slice())
         }
-        Node::Top {
-            child,
-            order: _,
-            limit: _,
-        } => {
-            let below = grades_of(alloc, schema, child.get())?;
-            let slices = no_slices(alloc, below.slices.as_slice())?;
-            Ok(over(slices, is_secure(below.level)))
-        }
+        Node::Top { child, .. } => top_grades(alloc, grades_of(alloc, schema, child.get())?),
     }
 }
 
@@ -184,7 +243,6 @@ fn trace(alloc: Global, schema: &Schema, node: &Node, column: usize) -> Result<V
 {
     match node {
         Node::Scan { table } => leaf(alloc, *table, column),
-        Node::Filter { child, cond: _ } => trace(alloc, schema, child.get(), column),
         Node::Project { child, columns } => {
             trace(
                 alloc,
@@ -203,23 +261,14 @@ fn trace(alloc: Global, schema: &Schema, node: &Node, column: usize) -> Result<V
             leaves.append(&mut more)?;
             Ok(leaves)
         }
-        Node::Group {
-            child,
-            keys,
-            having: _,
-        } => trace(alloc, schema, child.get(), named(keys.as_slice(), column)),
-        Node::Count { child } => trace(alloc, schema, child.get(), column),
-        Node::Distinct { child } => trace(alloc, schema, child.get(), column),
-        Node::Number {
-            child,
-            partition: _,
-            order: _,
-        } => trace(alloc, schema, child.get(), column),
-        Node::Top {
-            child,
-            order: _,
-            limit: _,
-        } => trace(alloc, schema, child.get(), column),
+        Node::Group { child, keys, .. } => {
+            trace(alloc, schema, child.get(), named(keys.as_slice(), column))
+        }
+        Node::Filter { child, .. }
+        | Node::Count { child }
+        | Node::Distinct { child }
+        | Node::Number { child, .. }
+        | Node::Top { child, .. } => trace(alloc, schema, child.get(), column),
     }
 }
 
@@ -282,35 +331,21 @@ pub fn segments(
     }
     let only = longer(alloc, path, 0)?;
     match node {
-        Node::Scan { table: _ } => Ok(Vec::new(alloc)),
-        Node::Filter { child, cond: _ } => segments(alloc, schema, child.get(), only.as_slice()),
-        Node::Project { child, columns: _ } => {
-            segments(alloc, schema, child.get(), only.as_slice())
-        }
-        Node::Join { left, right, on: _ } => {
+        Node::Scan { .. } => Ok(Vec::new(alloc)),
+        Node::Join { left, right, .. } => {
             let mut out = segments(alloc, schema, left.get(), only.as_slice())?;
             let other = longer(alloc, path, 1)?;
             let mut more = segments(alloc, schema, right.get(), other.as_slice())?;
             out.append(&mut more)?;
             Ok(out)
         }
-        Node::Group {
-            child,
-            keys: _,
-            having: _,
-        } => segments(alloc, schema, child.get(), only.as_slice()),
-        Node::Count { child } => segments(alloc, schema, child.get(), only.as_slice()),
-        Node::Distinct { child } => segments(alloc, schema, child.get(), only.as_slice()),
-        Node::Number {
-            child,
-            partition: _,
-            order: _,
-        } => segments(alloc, schema, child.get(), only.as_slice()),
-        Node::Top {
-            child,
-            order: _,
-            limit: _,
-        } => segments(alloc, schema, child.get(), only.as_slice()),
+        Node::Filter { child, .. }
+        | Node::Project { child, .. }
+        | Node::Group { child, .. }
+        | Node::Count { child }
+        | Node::Distinct { child }
+        | Node::Number { child, .. }
+        | Node::Top { child, .. } => segments(alloc, schema, child.get(), only.as_slice()),
     }
 }
 

@@ -1,11 +1,10 @@
 //! Rows and worlds that are judged.
-ghost use Rattle.std.specs.Prelude.{◌≡◌, ◌<◌, ◌-◌, ◌^◌, None, length, IfOk, MatchOption};
+ghost use Rattle.std.specs.Prelude.{◌≡◌, ◌<◌, ◌-◌, ◌^◌, None, length, IfOk};
 ghost use Rattle.std.specs.List.{All};
 ghost use Rattle.pdn_base.specs.Operators.{Rows as RowsModel};
 ghost use Rattle.pdn_schema.specs.Models.{table_of};
 ghost use Rattle.pdn_schema.specs.Rows.{AreValid};
 ghost use Rattle.pdn_agree.specs.Spots.{IsSpot};
-ghost use Rattle.pdn_site.specs.Engines.{IsFirstRefused};
 ghost use Rattle.pdn_query.specs.Answering.{judging};
 ghost use Rattle.pdn_query.specs.Comparing.{comparing};
 ghost use Rattle.pdn_query.specs.Script.{Script, column_name};
@@ -16,9 +15,10 @@ ghost use Rattle.pdn_script.specs.Stops.{IsRefusal};
 use crate::answer::wrong_rows;
 use crate::columns::column_name;
 use pdn_agree::{Spot, disagree};
-use pdn_base::{RowsErr, Site, Status, Tables};
-use pdn_schema::{Schema, valid_rows};
+use pdn_base::{Site, Status, Tables};
+use pdn_schema::Schema;
 use pdn_script::{Stop, refused_at};
+use pdn_site::first_refused;
 use std::alloc::Global;
 
 /// That a site's rows of every table are valid, or the refusal of the first table whose rows aren't.
@@ -29,28 +29,10 @@ pub fn judged(alloc: Global, site: Site, schema: &Schema, tables: &Tables) -> Re
         Came w w (judging site 0 schema.now.tables tables.now next) (λ _. next) result }
     ensures valid { IfOk result (λ _. AreValid schema.now tables.now) }
 {
-    match first_wrong(schema, tables) {
+    match first_refused(schema, tables) {
         None => Ok(()),
         Some((table, cause)) => Err(wrong_rows(alloc, schema, site, table, cause)),
     }
-}
-
-// The first table, in the order of the schema, whose rows aren't valid, and why.
-fn first_wrong(schema: &Schema, tables: &Tables) -> Option<(u32, RowsErr)>
-    requires count { length tables.now ≡ length schema.now.tables }
-    requires few { All (λ (rows : RowsModel). length rows < 2 ^ 32 - 1) tables.now }
-    ensures { MatchOption result (AreValid schema.now tables.now)
-        (λ first. IsFirstRefused schema.now tables.now first.0 first.1) }
-{
-    // what a schema keeps is known once it is looked at
-    let _floor = schema.floor;
-    for (i, rows) in tables.lists.iter().enumerate() {
-        let table = i as u32;
-        if let Err(cause) = valid_rows(schema, table, rows) {
-            return Some((table, cause));
-        }
-    }
-    None
 }
 
 /// That two lists of tables have the same set of values in every public column, or the refusal of the first column where they

@@ -114,25 +114,13 @@ fn scans(node: &Node, at: u32) -> bool
 {
     match node {
         Node::Scan { table } => *table == at,
-        Node::Filter { child, cond: _ } => scans(child.get(), at),
-        Node::Project { child, columns: _ } => scans(child.get(), at),
-        Node::Join { left, right, on: _ } => scans(left.get(), at) || scans(right.get(), at),
-        Node::Group {
-            child,
-            keys: _,
-            having: _,
-        } => scans(child.get(), at),
-        Node::Count { child } => scans(child.get(), at),
-        Node::Distinct { child } => scans(child.get(), at),
-        Node::Number {
-            child,
-            partition: _,
-            order: _,
-        } => scans(child.get(), at),
-        Node::Top {
-            child,
-            order: _,
-            limit: _,
-        } => scans(child.get(), at),
+        Node::Join { left, right, .. } => scans(left.get(), at) || scans(right.get(), at),
+        Node::Filter { child, .. }
+        | Node::Project { child, .. }
+        | Node::Group { child, .. }
+        | Node::Count { child }
+        | Node::Distinct { child }
+        | Node::Number { child, .. }
+        | Node::Top { child, .. } => scans(child.get(), at),
     }
 }

@@ -1,8 +1,9 @@
 -- The lists of a unit: how long each is, and how long the longest.
 use Rattle.std.specs.Prelude.{ℕ, max}
 use Rattle.pdn_schema.specs.Models.{SchemaModel}
-use Rattle.pdn_tree.specs.declared.node.Node.{Node}
+use Rattle.pdn_tree.specs.declared.node.Node.{Node, out-Node}
 use Rattle.pdn_tree.specs.declared.node.Node.TheOpen.{Node-F}
+use Rattle.pdn_tree.specs.declared.node.Node.TheFolds.{map-Node}
 use Rattle.pdn_level.specs.Padding.{Padding, leaf_padding, padding_step}
 use Rattle.pdn_level.specs.Slices.{followed}
 
@@ -27,6 +28,10 @@ sized_step (Node-F.Count child) = grown child.longest (padding_step (Node-F.Coun
 sized_step (Node-F.Distinct child) = grown child.longest (padding_step (Node-F.Distinct child.padding))
 sized_step (Node-F.Number child partition order) = grown child.longest (padding_step (Node-F.Number child.padding partition order))
 sized_step (Node-F.Top child order limit) = grown child.longest (padding_step (Node-F.Top child.padding order limit))
+
+-- the lists of a node, where each tree that it reads has these
+abbrev pub sized_over : Node → Sized → Sized
+sized_over n lists = sized_step (map-Node Node Sized (λ m. lists) (out-Node n))
 
 -- the lists of a tree in a unit, where a slice column is followed: of 2 sites in a secure unit, of 1 in a plain one
 abbrev pub sized : SchemaModel → ℕ → Node → ℕ → Sized

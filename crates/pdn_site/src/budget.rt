@@ -8,6 +8,7 @@ ghost use Rattle.pdn_site.specs.Built.{laid_through};
 ghost use Rattle.pdn_circuit.specs.Gates.{is_and};
 ghost use Rattle.pdn_site.specs.Budget.{Begins, MakesNet, spent};
 
+use crate::fits::Unfit;
 use crate::outputs::list_gates;
 use crate::root_lengths::Parts;
 use crate::rooting::root_list;
@@ -59,6 +60,7 @@ pub fn spent(left: &Left, made: &[Gate]) -> Result<Left, Memory>
     ensures { IfOk result (λ now. now ≡ spent left.now made.now) }
 {
     let Some(unit) = left.unit.checked_add(1) else {
+        // the count of units passes its type
         return Err(Memory);
     };
     Ok(Left {
@@ -87,10 +89,11 @@ fn finished(alloc: Global, b: Builder, list: &Padded, released: bool) -> Result<
         (λ err. err ≡ build.Memory) }
 {
     let Ok(outputs) = list_gates(alloc, list) else {
+        // a growth was refused
         return Err(BuildErr::Memory);
     };
     if outputs.len() > MOST_OUTPUTS {
-        return Err(BuildErr::Memory);
+        return Err(BuildErr::from(Unfit));
     }
     Ok(b.finish(outputs, released))
 }

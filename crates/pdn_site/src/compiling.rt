@@ -7,7 +7,7 @@ ghost use Rattle.pdn_site.specs.Budget.{MakesBelow, shapes_along};
 use crate::budget::Left;
 use crate::root_lengths::Parts;
 use crate::segments::node_at;
-use crate::shaping::{parts_of, root_unit, segment_units};
+use crate::shaping::{SegmentTree, parts_of, root_unit, segment_units};
 use crate::{CompileErr, PublicView, Unit, Units};
 use pdn_circuit::MOST_GATES;
 use pdn_level::Staged;
@@ -53,12 +53,19 @@ fn below_root(
     let mut left = left;
     for i in 0..staged.segments.len() {
         let Ok(number) = u32::try_from(i) else {
+            // the count of segments passes its type
             return Err(CompileErr::Memory);
         };
         let segment = &staged.segments[i];
         let top = node_at(root, segment.path.as_slice());
         let leaves = segment.leaves.as_slice();
-        let batch = segment_units(alloc, schema, top, leaves, number, &view.dirs[i], left)?;
+        let tree = SegmentTree {
+            schema,
+            top,
+            leaves,
+            number,
+        };
+        let batch = segment_units(alloc, &tree, &view.dirs[i], left)?;
         parts.push(parts_of(alloc, batch.units.as_slice())?)?;
         let mut more = batch.units;
         units.append(&mut more)?;

@@ -67,7 +67,7 @@ impl Model for SiteEngine {
 }
 
 /// The first table, in the order of the schema, whose rows aren't valid, and why.
-fn first_refused(schema: &Schema, tables: &Tables) -> Option<(u32, RowsErr)>
+pub fn first_refused(schema: &Schema, tables: &Tables) -> Option<(u32, RowsErr)>
     requires count { length tables.now ≡ length schema.now.tables }
     requires few { All (λ (rows : RowsModel). length rows < 2 ^ 32 - 1) tables.now }
     ensures { MatchOption result (AreValid schema.now tables.now)

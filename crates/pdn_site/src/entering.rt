@@ -3,12 +3,13 @@ ghost use Rattle.std.specs.Prelude.{◌≡◌, ◌∷◌, ◌++◌, [], map, IfO
 ghost use Rattle.pdn_base.specs.declared.marks.Kind.TheVariants as kind;
 ghost use Rattle.pdn_tree.specs.Meaning.{mean, table_of};
 ghost use Rattle.pdn_tree.specs.Shapes.{kind_at, kinds};
-ghost use Rattle.pdn_level.specs.Padding.{per_of};
 ghost use Rattle.pdn_site.specs.Circuits.{table_kinds};
 ghost use Rattle.pdn_site.specs.SiteRows.{entered};
 ghost use Rattle.pdn_site.specs.Entering.{first_per, leaf_words, is_local, entered_words};
 
+use crate::fits::Unfit;
 use crate::holding::rows_held;
+use crate::lengths::per_of;
 use crate::narrowing::{after, narrowed, scans};
 use pdn_base::{Kind, Memory, Rows, Tables, Value, Word, sort_rows};
 use pdn_level::Leaf;
@@ -26,7 +27,7 @@ pub fn entered(alloc: Global, rows: Rows, kinds: &[Kind], len: u32) -> Result<Ve
 {
     let rows = sort_rows(rows, &[])?;
     if (len as usize) < rows.rows.len() {
-        return Err(Memory);
+        return Err(Memory::from(Unfit));
     }
     rows_held(alloc, &rows, kinds)?;
     encode(alloc, &rows, kinds, len)
@@ -95,59 +96,35 @@ pub fn kinds_of(alloc: Global, schema: &Schema, node: &Node) -> Result<Vec<Kind>
 {
     match node {
         Node::Scan { table } => table_kinds(alloc, schema, *table),
-        Node::Filter { child, cond: _ } => kinds_of(alloc, schema, child.get()),
         Node::Project { child, columns } => {
             let below = kinds_of(alloc, schema, child.get())?;
             kinds_at(alloc, below.as_slice(), columns.as_slice())
         }
-        Node::Join { left, right, on: _ } => {
+        Node::Join { left, right, .. } => {
             let mut out = kinds_of(alloc, schema, left.get())?;
             let mut more = kinds_of(alloc, schema, right.get())?;
             out.append(&mut more)?;
             Ok(out)
         }
-        Node::Group {
-            child,
-            keys,
-            having: _,
-        } => {
+        Node::Group { child, keys, .. } => {
             let below = kinds_of(alloc, schema, child.get())?;
             with_count(kinds_at(alloc, below.as_slice(), keys.as_slice())?)
         }
-        Node::Count { child: _ } => with_count(Vec::new(alloc)),
-        Node::Distinct { child } => kinds_of(alloc, schema, child.get()),
-        Node::Number {
-            child,
-            partition: _,
-            order: _,
-        } => with_count(kinds_of(alloc, schema, child.get())?),
-        Node::Top {
-            child,
-            order: _,
-            limit: _,
-        } => kinds_of(alloc, schema, child.get()),
+        Node::Count { .. } => with_count(Vec::new(alloc)),
+        Node::Number { child, .. } => with_count(kinds_of(alloc, schema, child.get())?),
+        Node::Filter { child, .. } | Node::Distinct { child } | Node::Top { child, .. } => {
+            kinds_of(alloc, schema, child.get())
+        }
     }
 }
 
-/// In how many rows of a site one value of a leaf's column may stand.
-fn per_of(schema: &Schema, leaf: &Leaf) -> u32
-    ensures { result ≡ per_of schema.now leaf.now.table leaf.now.column }
-{
-    match schema.tables.get(leaf.table as usize) {
-        None => 0,
-        Some(t) => match t.columns.get(leaf.column as usize) {
-            None => 0,
-            Some(column) => column.per,
-        },
-    }
-}
-
+/// In how many rows of a site one value of the first leaf's column may stand.
 fn first_per(schema: &Schema, leaves: &[Leaf]) -> u32
     ensures { result ≡ first_per schema.now leaves.now }
 {
     match leaves.first() {
         None => 0,
-        Some(leaf) => per_of(schema, leaf),
+        Some(leaf) => per_of(schema, leaf.table, leaf.column),
     }
 }
 
@@ -171,31 +148,14 @@ pub(crate) fn is_local(node: &Node) -> bool
     ensures { result ≡ is_local node.now }
 {
     match node {
-        Node::Scan { table: _ } => true,
-        Node::Filter { child, cond: _ } => is_local(child.get()),
-        Node::Project { child, columns: _ } => is_local(child.get()),
-        Node::Join {
-            left: _,
-            right: _,
-            on: _,
-        } => false,
-        Node::Group {
-            child: _,
-            keys: _,
-            having: _,
-        } => false,
-        Node::Count { child: _ } => false,
-        Node::Distinct { child: _ } => false,
-        Node::Number {
-            child: _,
-            partition: _,
-            order: _,
-        } => false,
-        Node::Top {
-            child: _,
-            order: _,
-            limit: _,
-        } => false,
+        Node::Scan { .. } => true,
+        Node::Filter { child, .. } | Node::Project { child, .. } => is_local(child.get()),
+        Node::Join { .. }
+        | Node::Group { .. }
+        | Node::Count { .. }
+        | Node::Distinct { .. }
+        | Node::Number { .. }
+        | Node::Top { .. } => false,
     }
 }
 
@@ -216,43 +176,26 @@ pub fn entered_words(
         return leaf_words(alloc, schema, tables, &tree, leaves);
     }
     match node {
-        Node::Scan { table: _ } => Ok(Vec::new(alloc)),
-        Node::Filter { child, cond: _ } => {
+        Node::Scan { .. } => Ok(Vec::new(alloc)),
+        Node::Filter { child, .. } => {
             entered_words(alloc, schema, tables, child.get(), leaves, value)
         }
-        Node::Project { child, columns: _ } => {
+        Node::Project { child, .. } => {
             entered_words(alloc, schema, tables, child.get(), leaves, value)
         }
-        Node::Join { left, right, on: _ } => {
+        Node::Join { left, right, .. } => {
             let mut words = entered_words(alloc, schema, tables, left.get(), leaves, value)?;
             let rest = after(leaves, scans(left.get(), value)?);
             let mut more = entered_words(alloc, schema, tables, right.get(), rest, value)?;
             words.append(&mut more)?;
             Ok(words)
         }
-        Node::Group {
-            child,
-            keys: _,
-            having: _,
-        } => entered_words(alloc, schema, tables, child.get(), leaves, value),
-        Node::Count { child } => entered_words(alloc, schema, tables, child.get(), leaves, value),
-        Node::Distinct { child } => entered_words(
-            alloc,
-            schema,
-            tables,
-            child.get(),
-            leaves,
-            value,
-        ),
-        Node::Number {
-            child,
-            partition: _,
-            order: _,
-        } => entered_words(alloc, schema, tables, child.get(), leaves, value),
-        Node::Top {
-            child,
-            order: _,
-            limit: _,
-        } => entered_words(alloc, schema, tables, child.get(), leaves, value),
+        Node::Group { child, .. }
+        | Node::Count { child }
+        | Node::Distinct { child }
+        | Node::Number { child, .. }
+        | Node::Top { child, .. } => {
+            entered_words(alloc, schema, tables, child.get(), leaves, value)
+        }
     }
 }

@@ -1,31 +1,53 @@
-//! Conditions and keys that fit the columns of a list. What the type of a number keeps is known once it is looked at. Conditions
-//! and keys that don't fit, which sound plans have nowhere, are answered as memory that is wanting.
-ghost use Rattle.std.specs.Prelude.{◌≡◌, ◌<◌, length, IfOk, IfErr};
+//! Conditions, keys and lengths that fit the columns of a list. What the type of a number keeps is known once it is looked at.
+ghost use Rattle.std.specs.Prelude.{◌≡◌, ◌<◌, ◌≤◌, ◌*◌, length, IfOk};
 ghost use Rattle.std.specs.List.{AllByRecursion};
-ghost use Rattle.pdn_circuit.specs.declared.tally.BuildErr.TheVariants.{Memory};
 ghost use Rattle.pdn_obl_rows.specs.Lists.{kind_at};
 ghost use Rattle.pdn_obl_rows.specs.Conditions.{ClauseFits, CmpFits, CondFits, OperandFits, PlusFits, TermFits};
 ghost use Rattle.pdn_obl_rank.specs.Keys.{KeysFit};
 
-use pdn_base::{Clause, Cmp, Cond, Key, Kind, Operand, Term};
+use pdn_base::{Clause, Cmp, Cond, Key, Kind, Memory, Operand, Term};
 use pdn_circuit::BuildErr;
 
-fn plus_fits(kind: Kind, plus: Option<u32>) -> Result<(), BuildErr>
+/// Something doesn't fit the lists that it is for: a condition, a key or a length, which no sound plan has, or a row, which no
+/// valid table has.
+#[derive(Clone, Copy, Debug, Drop)]
+pub struct Unfit;
+
+impl From<Unfit> for BuildErr {
+    ghost use Rattle.std.specs.Prelude.{◌≡◌};
+    ghost use Rattle.pdn_circuit.specs.declared.tally.BuildErr.TheVariants.{Memory};
+
+    ghost from_gives = { λ _ e. e ≡ Memory };
+
+    // What an operator of no sound plan asks is answered as memory that is wanting.
+    fn from(_: Unfit) -> BuildErr {
+        BuildErr::Memory
+    }
+}
+
+impl From<Unfit> for Memory {
+    ghost from_gives = { λ _ _. Unit {0} };
+
+    // So it is of rows that valid tables have nowhere, as they enter a circuit.
+    fn from(_: Unfit) -> Memory {
+        Memory
+    }
+}
+
+fn plus_fits(kind: Kind, plus: Option<u32>) -> Result<(), Unfit>
     ensures fits { IfOk result (λ _. PlusFits kind plus) }
-    ensures memory { IfErr result (λ err. err ≡ Memory) }
 {
     match (kind, plus) {
         (_, None) => Ok(()),
         (Kind::Int, Some(_)) => Ok(()),
-        (Kind::Code, Some(_)) => Err(BuildErr::Memory),
+        (Kind::Code, Some(_)) => Err(Unfit),
     }
 }
 
 /// A term over columns of these kinds; its own kind.
-fn term_fits(kinds: &[Kind], term: &Term) -> Result<Kind, BuildErr>
+fn term_fits(kinds: &[Kind], term: &Term) -> Result<Kind, Unfit>
     ensures fits { IfOk result (λ kind. TermFits kinds.now term.now kind) }
     ensures own { IfOk result (λ kind. kind_at kinds.now term.now.column ≡ kind) }
-    ensures memory { IfErr result (λ err. err ≡ Memory) }
 {
     let column = term.column as usize;
     if column < kinds.len() {
@@ -33,24 +55,22 @@ fn term_fits(kinds: &[Kind], term: &Term) -> Result<Kind, BuildErr>
         plus_fits(kind, term.plus)?;
         Ok(kind)
     } else {
-        Err(BuildErr::Memory)
+        Err(Unfit)
     }
 }
 
-fn same_kind(left: Kind, right: Kind) -> Result<(), BuildErr>
+fn same_kind(left: Kind, right: Kind) -> Result<(), Unfit>
     ensures same { IfOk result (λ _. left ≡ right) }
-    ensures memory { IfErr result (λ err. err ≡ Memory) }
 {
     match (left, right) {
         (Kind::Int, Kind::Int) => Ok(()),
         (Kind::Code, Kind::Code) => Ok(()),
-        _ => Err(BuildErr::Memory),
+        _ => Err(Unfit),
     }
 }
 
-fn operand_fits(kinds: &[Kind], operand: &Operand, kind: Kind) -> Result<(), BuildErr>
+fn operand_fits(kinds: &[Kind], operand: &Operand, kind: Kind) -> Result<(), Unfit>
     ensures fits { IfOk result (λ _. OperandFits kinds.now operand.now kind) }
-    ensures memory { IfErr result (λ err. err ≡ Memory) }
 {
     match operand {
         Operand::Term(term) => {
@@ -68,17 +88,15 @@ fn operand_fits(kinds: &[Kind], operand: &Operand, kind: Kind) -> Result<(), Bui
     }
 }
 
-fn cmp_fits(kinds: &[Kind], cmp: &Cmp) -> Result<(), BuildErr>
+fn cmp_fits(kinds: &[Kind], cmp: &Cmp) -> Result<(), Unfit>
     ensures fits { IfOk result (λ _. CmpFits kinds.now cmp.now) }
-    ensures memory { IfErr result (λ err. err ≡ Memory) }
 {
     let kind = term_fits(kinds, &cmp.left)?;
     operand_fits(kinds, &cmp.right, kind)
 }
 
-fn clause_fits(kinds: &[Kind], clause: &[Cmp]) -> Result<(), BuildErr>
+fn clause_fits(kinds: &[Kind], clause: &[Cmp]) -> Result<(), Unfit>
     ensures fits { IfOk result (λ _. ClauseFits kinds.now clause.now) }
-    ensures memory { IfErr result (λ err. err ≡ Memory) }
 {
     match clause.split_first() {
         None => Ok(()),
@@ -89,9 +107,8 @@ fn clause_fits(kinds: &[Kind], clause: &[Cmp]) -> Result<(), BuildErr>
     }
 }
 
-fn clauses_fit(kinds: &[Kind], clauses: &[Clause]) -> Result<(), BuildErr>
+fn clauses_fit(kinds: &[Kind], clauses: &[Clause]) -> Result<(), Unfit>
     ensures fits { IfOk result (λ _. CondFits kinds.now clauses.now) }
-    ensures memory { IfErr result (λ err. err ≡ Memory) }
 {
     match clauses.split_first() {
         None => Ok(()),
@@ -103,17 +120,15 @@ fn clauses_fit(kinds: &[Kind], clauses: &[Clause]) -> Result<(), BuildErr>
 }
 
 /// Whether a condition fits columns of these kinds.
-pub fn cond_fits(kinds: &[Kind], cond: &Cond) -> Result<(), BuildErr>
+pub fn cond_fits(kinds: &[Kind], cond: &Cond) -> Result<(), Unfit>
     ensures fits { IfOk result (λ _. CondFits kinds.now cond.now) }
-    ensures memory { IfErr result (λ err. err ≡ Memory) }
 {
     clauses_fit(kinds, cond.all.as_slice())
 }
 
 /// Whether these columns are among so many.
-pub fn columns_fit(count: usize, columns: &[u32]) -> Result<(), BuildErr>
+pub fn columns_fit(count: usize, columns: &[u32]) -> Result<(), Unfit>
     ensures fits { IfOk result (λ _. AllByRecursion (λ column. column < count) columns.now) }
-    ensures memory { IfErr result (λ err. err ≡ Memory) }
 {
     match columns.split_first() {
         None => Ok(()),
@@ -121,15 +136,14 @@ pub fn columns_fit(count: usize, columns: &[u32]) -> Result<(), BuildErr>
             if (*column as usize) < count {
                 columns_fit(count, rest)
             } else {
-                Err(BuildErr::Memory)
+                Err(Unfit)
             }
         }
     }
 }
 
-fn order_fits(count: usize, order: &[Key]) -> Result<(), BuildErr>
+fn order_fits(count: usize, order: &[Key]) -> Result<(), Unfit>
     ensures fits { IfOk result (λ _. AllByRecursion (λ (key : Key). key.column < count) order.now) }
-    ensures memory { IfErr result (λ err. err ≡ Memory) }
 {
     match order.split_first() {
         None => Ok(()),
@@ -137,17 +151,31 @@ fn order_fits(count: usize, order: &[Key]) -> Result<(), BuildErr>
             if (key.column as usize) < count {
                 order_fits(count, rest)
             } else {
-                Err(BuildErr::Memory)
+                Err(Unfit)
             }
         }
     }
 }
 
-/// Whether the columns of a partition and an order are among so many.
-pub fn keys_fit(count: usize, partition: &[u32], order: &[Key]) -> Result<(), BuildErr>
+/// Whether the columns of a partition and an order are among so many, and neither is too long to count.
+pub fn keys_fit(count: usize, partition: &[u32], order: &[Key]) -> Result<(), Unfit>
     ensures fits { IfOk result (λ _. KeysFit count partition.now order.now) }
-    ensures memory { IfErr result (λ err. err ≡ Memory) }
+    ensures columns { IfOk result (λ _. count ≤ 65536) }
+    ensures keys { IfOk result (λ _. length order.now ≤ 65536) }
 {
+    if 65536 < count || 65536 < order.len() {
+        return Err(Unfit);
+    }
     columns_fit(count, partition)?;
     order_fits(count, order)
+}
+
+/// Whether the pairs of two lists' rows are a list.
+pub fn pairs_fit(left: u32, right: u32) -> Result<(), Unfit>
+    ensures { IfOk result (λ _. left * right ≤ 4096) }
+{
+    if 4096 < u64::from(left) * u64::from(right) {
+        return Err(Unfit);
+    }
+    Ok(())
 }

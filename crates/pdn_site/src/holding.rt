@@ -1,11 +1,12 @@
 //! Values, rows and tables such as circuits take: that their numbers fit, by what the types of values keep.
-ghost use Rattle.std.specs.Prelude.{◌≡◌, List, IfOk};
+ghost use Rattle.std.specs.Prelude.{◌≡◌, List, true, IfOk};
 ghost use Rattle.std.specs.List.{All};
 ghost use Rattle.pdn_base.specs.declared.value.Value.{Value as Cell};
 ghost use Rattle.pdn_schema.specs.Rows.{AreValid, kinds_of, value_kind};
 ghost use Rattle.pdn_obl_rows.specs.Encoding.{IsOf, RowIsOf, RowsAreOf};
 ghost use Rattle.pdn_site.specs.Meaning.{AreTables};
 
+use crate::fits::Unfit;
 use pdn_base::{Kind, Memory, Rows, Tables, Value};
 use pdn_schema::Schema;
 use std::alloc::Global;
@@ -61,34 +62,38 @@ pub(crate) fn tables_held(alloc: Global, schema: &Schema, tables: &Tables) -> Re
     Ok(())
 }
 
-fn value_held(alloc: Global, value: &Value, kind: Kind) -> Result<(), Memory>
-    ensures { IfOk result (λ _. IsOf kind value.now) }
+fn is_of(value: &Value, kind: Kind) -> bool
+    ensures { result ≡ true → value_kind value.now ≡ kind }
 {
-    match (value, kind) {
-        (Value::Int(_), Kind::Int) | (Value::Code(_), Kind::Code) => value_known(alloc, value),
-        _ => Err(Memory),
-    }
+    matches!(
+        (value, kind),
+        (Value::Int(_), Kind::Int) | (Value::Code(_), Kind::Code)
+    )
+}
+
+fn are_of(values: &[Value], kinds: &[Kind]) -> bool
+    ensures { result ≡ true → kinds_of values.now ≡ kinds.now }
+{
+    let Some((kind, kinds)) = kinds.split_first() else {
+        return values.is_empty();
+    };
+    let Some((value, values)) = values.split_first() else {
+        return false;
+    };
+    is_of(value, *kind) && are_of(values, kinds)
 }
 
 fn row_held(alloc: Global, values: &[Value], kinds: &[Kind]) -> Result<(), Memory>
     ensures { IfOk result (λ _. RowIsOf kinds.now values.now) }
 {
-    let Some((kind, kinds)) = kinds.split_first() else {
-        return if values.is_empty() {
-            Ok(())
-        } else {
-            Err(Memory)
-        };
-    };
-    let Some((value, values)) = values.split_first() else {
-        return Err(Memory);
-    };
-    value_held(alloc, value, *kind)?;
-    row_held(alloc, values, kinds)
+    if are_of(values, kinds) {
+        row_known(alloc, values)
+    } else {
+        Err(Memory::from(Unfit))
+    }
 }
 
-/// Rows whose values have these kinds are such rows as circuits take. Rows of other kinds, which valid tables give nowhere,
-/// are answered as memory that is wanting.
+/// Rows whose values have these kinds are such rows as circuits take.
 pub fn rows_held(alloc: Global, rows: &Rows, kinds: &[Kind]) -> Result<(), Memory>
     ensures { IfOk result (λ _. RowsAreOf kinds.now rows.now) }
 {

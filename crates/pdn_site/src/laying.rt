@@ -130,9 +130,11 @@ pub fn input_list(
     ensures is { IfOk result (IsListOf kinds.now len) }
 {
     let Some(planes) = widths(kinds) else {
+        // the count of planes passes its type
         return Err(BuildErr::Memory);
     };
     let Some(count) = list_words(planes, len) else {
+        // the count of words passes its type
         return Err(BuildErr::Memory);
     };
     let first = take_inputs(b, site, count)?;
@@ -151,9 +153,11 @@ pub fn given_list(
     ensures is { IfOk result (IsListOf kinds.now len) }
 {
     let Some(planes) = widths(kinds) else {
+        // the count of planes passes its type
         return Err(BuildErr::Memory);
     };
     let Some(count) = list_words(planes, len) else {
+        // the count of words passes its type
         return Err(BuildErr::Memory);
     };
     let first = take_given(b, count)?;

@@ -25,7 +25,7 @@ mod unit;
 mod view;
 
 pub use compiling::compile;
-pub use engine::{SiteEngine, SiteErr};
+pub use engine::{SiteEngine, SiteErr, first_refused};
 pub use entering::kinds_of;
 pub use laws::{queries_mean, units_mean};
 pub use unit::{CompileErr, Unit, UnitKind, Units};

@@ -4,8 +4,11 @@ ghost use Rattle.pdn_site.specs.Narrowing.{constant, has_value, narrowed_scan, s
 
 use pdn_base::{Clause, Cmp, Cond, Memory, Op, Operand, Term, Value};
 use pdn_level::Leaf;
-use pdn_tree::{Node, copy_cond, make_group, make_join, make_number, make_top};
-use sqlite_items::{Boxed, Items};
+use pdn_tree::{
+    Node, make_count, make_distinct, make_filter, make_group, make_join, make_number, make_project,
+    make_top,
+};
+use sqlite_items::Boxed;
 use std::alloc::Global;
 
 fn constant(value: &Value) -> Operand
@@ -50,34 +53,23 @@ pub fn scans(node: &Node, value: &Value) -> Result<usize, Memory>
     ensures { IfOk result (λ count. count ≡ scans value.now node.now) }
 {
     match node {
-        Node::Scan { table: _ } => Ok(1),
-        Node::Filter { child, cond: _ } => scans(child.get(), value),
-        Node::Project { child, columns: _ } => scans(child.get(), value),
-        Node::Join { left, right, on: _ } => {
+        Node::Scan { .. } => Ok(1),
+        Node::Join { left, right, .. } => {
             let l = scans(left.get(), value)?;
             let r = scans(right.get(), value)?;
             match l.checked_add(r) {
                 Some(count) => Ok(count),
+                // the count passes its type
                 None => Err(Memory),
             }
         }
-        Node::Group {
-            child,
-            keys: _,
-            having: _,
-        } => scans(child.get(), value),
-        Node::Count { child } => scans(child.get(), value),
-        Node::Distinct { child } => scans(child.get(), value),
-        Node::Number {
-            child,
-            partition: _,
-            order: _,
-        } => scans(child.get(), value),
-        Node::Top {
-            child,
-            order: _,
-            limit: _,
-        } => scans(child.get(), value),
+        Node::Filter { child, .. }
+        | Node::Project { child, .. }
+        | Node::Group { child, .. }
+        | Node::Count { child }
+        | Node::Distinct { child }
+        | Node::Number { child, .. }
+        | Node::Top { child, .. } => scans(child.get(), value),
     }
 }
 
@@ -102,15 +94,11 @@ pub fn narrowed(alloc: Global, node: &Node, leaves: &[Leaf], value: &Value) -> R
         Node::Scan { table } => narrowed_scan(alloc, *table, leaves, value),
         Node::Filter { child, cond } => {
             let child = narrowed(alloc, child.get(), leaves, value)?;
-            let cond = copy_cond(alloc, cond)?;
-            let child = Boxed::new(alloc, child)?;
-            Ok(Node::Filter { child, cond })
+            make_filter(alloc, child, cond)
         }
         Node::Project { child, columns } => {
             let child = narrowed(alloc, child.get(), leaves, value)?;
-            let columns = Items::from_slice(alloc, columns.as_slice())?;
-            let child = Boxed::new(alloc, child)?;
-            Ok(Node::Project { child, columns })
+            make_project(alloc, child, columns.as_slice())
         }
         Node::Join { left, right, on } => {
             let l = narrowed(alloc, left.get(), leaves, value)?;
@@ -126,15 +114,9 @@ pub fn narrowed(alloc: Global, node: &Node, leaves: &[Leaf], value: &Value) -> R
             let child = narrowed(alloc, child.get(), leaves, value)?;
             make_group(alloc, child, keys.as_slice(), *having)
         }
-        Node::Count { child } => {
-            let child = narrowed(alloc, child.get(), leaves, value)?;
-            let child = Boxed::new(alloc, child)?;
-            Ok(Node::Count { child })
-        }
+        Node::Count { child } => { make_count(alloc, narrowed(alloc, child.get(), leaves, value)?) }
         Node::Distinct { child } => {
-            let child = narrowed(alloc, child.get(), leaves, value)?;
-            let child = Boxed::new(alloc, child)?;
-            Ok(Node::Distinct { child })
+            make_distinct(alloc, narrowed(alloc, child.get(), leaves, value)?)
         }
         Node::Number {
             child,

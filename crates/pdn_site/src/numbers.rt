@@ -67,39 +67,27 @@ pub(crate) fn numbers_held(node: &Node)
     ensures { numbers_fit node.now ≡ true }
 {
     match node {
-        Node::Scan { table: _ } => (),
+        Node::Scan { .. } => (),
         Node::Filter { child, cond } => {
             numbers_held(child.get());
             cond_held(cond);
         }
-        Node::Project { child, columns: _ } => numbers_held(child.get()),
         Node::Join { left, right, on } => {
             numbers_held(left.get());
             numbers_held(right.get());
             cond_held(on);
         }
-        Node::Group {
-            child,
-            keys: _,
-            having,
-        } => {
+        Node::Group { child, having, .. } => {
             numbers_held(child.get());
             number_held(*having);
         }
-        Node::Count { child } => numbers_held(child.get()),
-        Node::Distinct { child } => numbers_held(child.get()),
-        Node::Number {
-            child,
-            partition: _,
-            order: _,
-        } => numbers_held(child.get()),
-        Node::Top {
-            child,
-            order: _,
-            limit,
-        } => {
+        Node::Top { child, limit, .. } => {
             numbers_held(child.get());
             number_held(*limit);
         }
+        Node::Project { child, .. }
+        | Node::Count { child }
+        | Node::Distinct { child }
+        | Node::Number { child, .. } => numbers_held(child.get()),
     }
 }

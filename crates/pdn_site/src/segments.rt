@@ -12,33 +12,21 @@ fn child_of(node: &Node, way: u8) -> Option<&Node>
     ensures { option_copied result ≡ child_of way (out-Node node.now) }
 {
     match node {
-        Node::Scan { table: _ } => None,
-        Node::Filter { child, cond: _ } => Some(child.get()),
-        Node::Project { child, columns: _ } => Some(child.get()),
-        Node::Join { left, right, on: _ } => {
+        Node::Scan { .. } => None,
+        Node::Join { left, right, .. } => {
             if way == 0 {
                 Some(left.get())
             } else {
                 Some(right.get())
             }
         }
-        Node::Group {
-            child,
-            keys: _,
-            having: _,
-        } => Some(child.get()),
-        Node::Count { child } => Some(child.get()),
-        Node::Distinct { child } => Some(child.get()),
-        Node::Number {
-            child,
-            partition: _,
-            order: _,
-        } => Some(child.get()),
-        Node::Top {
-            child,
-            order: _,
-            limit: _,
-        } => Some(child.get()),
+        Node::Filter { child, .. }
+        | Node::Project { child, .. }
+        | Node::Group { child, .. }
+        | Node::Count { child }
+        | Node::Distinct { child }
+        | Node::Number { child, .. }
+        | Node::Top { child, .. } => Some(child.get()),
     }
 }
 

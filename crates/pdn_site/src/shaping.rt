@@ -49,6 +49,15 @@ impl Model for Batch {
     ghost view = { λ b. record { units = b.units.items; left = b.left } };
 }
 
+/// A segment: its number, its tree, and the columns of its tree's tables to which its values are traced, left to right.
+#[derive(Drop)]
+pub struct SegmentTree<'a> {
+    pub schema: &'a Schema,
+    pub top: &'a Node,
+    pub leaves: &'a [Leaf],
+    pub number: u32,
+}
+
 /// Whether a directory has a value.
 fn stands_in(values: &[Value], value: &Value) -> bool
     ensures { result ≡ stands_in values.now value.now }
@@ -58,19 +67,6 @@ fn stands_in(values: &[Value], value: &Value) -> bool
             ensures { result ≡ same_value value.entry.now other.now }
         { *value == *other },
     )
-}
-
-/// The kind of a value's unit.
-fn kind_of(dirs: &SegDirs, value: &Value) -> UnitKind
-    ensures { result ≡ kind_of dirs.now value.now }
-{
-    if !stands_in(dirs.a.as_slice(), value) {
-        UnitKind::Plain(Site::B)
-    } else if stands_in(dirs.b.as_slice(), value) {
-        UnitKind::Secure
-    } else {
-        UnitKind::Plain(Site::A)
-    }
 }
 
 /// The values of a segment's units.
@@ -118,18 +114,15 @@ fn passed(err: BuildErr, unit: u64) -> CompileErr
 #[tactic(auto, using(crate::proofs::CompilingLaws::long_passes, crate::proofs::CompilingLaws::unit_reaches))]
 fn plain_unit(
     alloc: Global,
-    schema: &Schema,
-    top: &Node,
-    leaves: &[Leaf],
-    segment: u32,
+    tree: &SegmentTree<'_>,
     value: &Value,
     site: Site,
     left: &Left,
 ) -> Result<Step, CompileErr>
-    ensures { MakesUnit left.now (shape_along schema.now top.now leaves.now segment value.now
-        (Plain site)) result }
+    ensures { MakesUnit left.now (shape_along tree.now.schema.now tree.now.top.now
+        tree.now.leaves.now tree.now.number value.now (Plain site)) result }
 {
-    let Some(lists) = sized(alloc, schema, 1, top, leaves)? else {
+    let Some(lists) = sized(alloc, tree.schema, 1, tree.top, tree.leaves)? else {
         return Err(CompileErr::TooLarge {
             limit: 1,
             unit: left.unit,
@@ -137,7 +130,7 @@ fn plain_unit(
     };
     let unit = Unit {
         kind: UnitKind::Plain(site),
-        segment: Some(segment),
+        segment: Some(tree.number),
         value: Some(*value),
         len: lists.room,
         circuit: None,
@@ -149,30 +142,27 @@ fn plain_unit(
 #[tactic(auto, using(crate::proofs::CompilingLaws::long_passes, crate::proofs::CompilingLaws::over_passes, crate::proofs::CompilingLaws::unit_reaches))]
 fn secure_unit(
     alloc: Global,
-    schema: &Schema,
-    top: &Node,
-    leaves: &[Leaf],
-    segment: u32,
+    tree: &SegmentTree<'_>,
     value: &Value,
     left: &Left,
 ) -> Result<Step, CompileErr>
     requires { left.now.gates ≤ 16777216 }
-    ensures { MakesUnit left.now (shape_along schema.now top.now leaves.now segment value.now
-        Secure) result }
+    ensures { MakesUnit left.now (shape_along tree.now.schema.now tree.now.top.now
+        tree.now.leaves.now tree.now.number value.now Secure) result }
 {
-    let Some(lists) = sized(alloc, schema, 2, top, leaves)? else {
+    let Some(lists) = sized(alloc, tree.schema, 2, tree.top, tree.leaves)? else {
         return Err(CompileErr::TooLarge {
             limit: 1,
             unit: left.unit,
         });
     };
-    let circuit = match secure_circuit(alloc, schema, value, top, leaves, left) {
+    let circuit = match secure_circuit(alloc, tree.schema, value, tree.top, tree.leaves, left) {
         Ok(circuit) => circuit,
         Err(err) => return Err(passed(err, left.unit)),
     };
     let unit = Unit {
         kind: UnitKind::Secure,
-        segment: Some(segment),
+        segment: Some(tree.number),
         value: Some(*value),
         len: lists.room,
         circuit: Some(circuit),
@@ -212,48 +202,43 @@ pub fn root_unit(
     Ok(stepped(unit, left)?)
 }
 
-/// The unit of a value. The root has no value, so that no directory asks for it here.
+/// The unit of a value: plain where one directory alone has it, and secure where both do.
 fn value_unit(
     alloc: Global,
-    schema: &Schema,
-    top: &Node,
-    leaves: &[Leaf],
-    segment: u32,
+    tree: &SegmentTree<'_>,
+    dirs: &SegDirs,
     value: &Value,
-    kind: UnitKind,
     left: &Left,
 ) -> Result<Step, CompileErr>
     requires { left.now.gates ≤ 16777216 }
-    ensures { MakesUnit left.now (shape_along schema.now top.now leaves.now segment value.now kind)
-        result }
+    ensures { MakesUnit left.now (shape_along tree.now.schema.now tree.now.top.now
+        tree.now.leaves.now tree.now.number value.now (kind_of dirs.now value.now)) result }
 {
-    match kind {
-        UnitKind::Plain(site) => plain_unit(alloc, schema, top, leaves, segment, value, site, left),
-        UnitKind::Secure => secure_unit(alloc, schema, top, leaves, segment, value, left),
-        UnitKind::Root => Err(CompileErr::Memory),
+    if !stands_in(dirs.a.as_slice(), value) {
+        plain_unit(alloc, tree, value, Site::B, left)
+    } else if stands_in(dirs.b.as_slice(), value) {
+        secure_unit(alloc, tree, value, left)
+    } else {
+        plain_unit(alloc, tree, value, Site::A, left)
     }
 }
 
 /// The units of a segment.
 pub fn segment_units(
     alloc: Global,
-    schema: &Schema,
-    top: &Node,
-    leaves: &[Leaf],
-    segment: u32,
+    tree: &SegmentTree<'_>,
     dirs: &SegDirs,
     left: Left,
 ) -> Result<Batch, CompileErr>
     requires { left.gates ≤ 16777216 }
-    ensures { MakesUnits left (segment_along schema.now top.now leaves.now segment dirs.now)
-        result }
+    ensures { MakesUnits left (segment_along tree.now.schema.now tree.now.top.now
+        tree.now.leaves.now tree.now.number dirs.now) result }
 {
     let values = unit_values(alloc, dirs)?;
     let mut units = Vec::new(alloc);
     let mut left = left;
     for value in &values {
-        let kind = kind_of(dirs, value);
-        let step = value_unit(alloc, schema, top, leaves, segment, value, kind, &left)?;
+        let step = value_unit(alloc, tree, dirs, value, &left)?;
         units.push(step.unit)?;
         left = step.left;
     }
