@@ -19,6 +19,7 @@ pdn run <sqlfile> <workers> show <view>          the same, and behind each answe
 pdn twin <a or b> <sqlfile> <folder> <workers>   what a or b sees of each query in two worlds, and the change of the tape
 pdn check <sqlfile>                              prints the schema, and each query's form, columns and segments
 pdn load <a or b> <table> <batch> <csvfile>      gives a site a batch of a table
+pdn gen <seed> <patients> <workers>              answers three queries over a made-up network of so many patients
 pdn --explain <line>                             says what a line 'refused ..' or 'fault ..' means, and what to do
 pdn --explain <line> <sqlfile>                   the same for a line 'refused 4 ..', and shows the place in the file
 pdn --help                                       prints this

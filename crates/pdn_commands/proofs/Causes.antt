@@ -24,7 +24,7 @@ use Rattle.pdn_query.specs.Showing.{views_on}
 use Rattle.pdn_query.specs.Questions.{Told, Unbound, Broken, Hidden, IsBound, AreQueriesIn, AreRowsIn, Answer, New, Again, Differs, OverRows, OverPer, Batch, Gives, IsNext, after, with_desk, with_taken}
 use Rattle.pdn_query.specs.Script.{Script, Finish, Say, or_unbound}
 use Rattle.pdn_query.specs.Walk.{Refusals, Texts}
-use Rattle.pdn_commands.specs.Causes.{AskedRun, AskedQueries, AskedCheck, AskedReports, AskedLoad, AskedTable, Inputs, IsAsked, AreWrong, Cause, IsDone, file_of}
+use Rattle.pdn_commands.specs.Causes.{AskedRun, AskedQueries, AskedCheck, AskedReports, AskedLoad, AskedTable, Inputs, IsAsked, AreWrong, Cause, IsDone, file_of, ReadsFiles}
 use Rattle.pdn_commands.specs.Checking.{reporting, query_report, AreReported}
 use Rattle.pdn_commands.specs.Commands.{Task, Run, Check, Load, task_of, run_script, check_script}
 use Rattle.pdn_commands.specs.Running.{queries_script, with_given, IsReached}
@@ -59,9 +59,9 @@ module _ (tape : Tape) (rose : Who → Type 0) (told : Told) (words : List (List
       let asked : IsAsked told words = record { all = all; query = query; reached = reached; plan = plan; binds = binds; a = a; b = b; held_a = ha; held_b = hb } in
       in_judged now (Refused rose told words) A 0 all.run.s.tables a _ (λ k place e same before l refused. wrong_caused asked A place e (subst (λ (n : ℕ). AreWrong all.run.s a b A n e) (from_first k place same) (record { before = before; within = l; here = refused }))) (λ va.
       in_judged now (Refused rose told words) B 0 all.run.s.tables b _ (λ k place e same before l refused. wrong_caused asked B place e (subst (λ (n : ℕ). AreWrong all.run.s a b B n e) (from_first k place same) (va, record { before = before; within = l; here = refused }))) (λ vb.
-      in_large now (Refused rose told words) _ (units_over all.run.s plan.root a b) (λ limit unit passes. record { asked = asked; valid_a = va; valid_b = vb; passes = passes })
+      in_large now (Refused rose told words) _ (units_over all.run.s plan.root a b) (λ limit unit passes. inl (record { asked = asked; valid_a = va; valid_b = vb; passes = passes }))
       (λ units fits. in_given now (Refused rose told words) (λ ticket. next ticket (prepared_of all.run.s plan.root a b units) (answer all.run.s (union a b) query))
-      (λ ticket most is. record { asked = asked; valid_a = va; valid_b = vb; units = units; fits = fits; spent = all_given told.desk (length reached.before) ticket most is })
+      (λ ticket most is. inl (record { asked = asked; valid_a = va; valid_b = vb; units = units; fits = fits; spent = all_given told.desk (length reached.before) ticket most is }))
       (λ ticket few is. more (record { plan = plan; binds = binds; a = a; b = b; held_a = ha; held_b = hb; valid_a = va; valid_b = vb; units = units; fits = fits }) ticket few is (prepared_of all.run.s plan.root a b units)
       (answer all.run.s (union a b) query)))))))
 
@@ -114,25 +114,25 @@ module _ (tape : Tape) (rose : Who → Type 0) (told : Told) (words : List (List
       reports_caused all (number + 1) (before ++ query ∷ []) queries (e ∙ sym (append_assoc before (query ∷ []) queries)) (all_bound all.check.s before query bound (plan, binds))
       (λ text. next (query_report all.check.s number query plan ++ text)) (λ text. more (query_report all.check.s number query plan ++ text)))
 
-  task_inputs : (task : Task) (next : SchemaModel → List ℕ → Script) → task_of words ≡ Some task → ((s : SchemaModel) (text : List ℕ) → Inputs told.files (file_of task) s text → Caused (next s text)) →
+  task_inputs : (task : Task) (next : SchemaModel → List ℕ → Script) → task_of words ≡ Some task → ReadsFiles task → ((s : SchemaModel) (text : List ℕ) → Inputs told.files (file_of task) s text → Caused (next s text)) →
       Caused (with_inputs (file_of task) next)
-  task_inputs task next e more = in_inputs told (Refused rose told words) (file_of task) next (λ file is h. ((task, e, is), h))
-      (λ net text hn ht line cause is. record { task = task; asked = e; net = net; text = text; net_held = hn; text_held = ht; is = is }) more
+  task_inputs task next e reads more = in_inputs told (Refused rose told words) (file_of task) next (λ file is h. ((task, e, reads, is), h))
+      (λ net text hn ht line cause is. record { task = task; asked = e; reads = reads; net = net; text = text; net_held = hn; text_held = ht; is = is }) more
 
   pub run_caused : (file : List ℕ) (workers : ℕ) (parties : List Party) → task_of words ≡ Some (Run file workers parties) → Caused (run_script tape parties file)
-  run_caused file workers parties e = task_inputs (Run file workers parties) _ e (λ s sql inputs read is.
+  run_caused file workers parties e = task_inputs (Run file workers parties) _ e tt (λ s sql inputs read is.
       let run : AskedRun told words = record { file = file; workers = workers; parties = parties; s = s; sql = sql; asked = e; inputs = inputs } in
       in_read told (Refused rose told words) status.Sql _ (AreQueriesIn sql) read is (λ place kind are. inl (run, are))
       (λ queries are. queries_caused (record { run = run; queries = queries; are = are })))
 
   pub check_caused : (file : List ℕ) → task_of words ≡ Some (Check file) → Caused (check_script file)
-  check_caused file e = task_inputs (Check file) _ e (λ s sql inputs read is.
+  check_caused file e = task_inputs (Check file) _ e tt (λ s sql inputs read is.
       let check : AskedCheck told words = record { file = file; s = s; sql = sql; asked = e; inputs = inputs } in
       in_read told (Refused rose told words) status.Sql _ (AreQueriesIn sql) read is (λ place kind are. inr (check, are))
       (λ queries are. reports_caused (record { check = check; queries = queries; are = are }) 1 [] queries refl tt (λ text. Say (text_of s ++ text) Finish) (λ text. tt)))
 
   pub load_task_caused : (site : Site) (table : List ℕ) (number : ℕ) (file : List ℕ) → task_of words ≡ Some (Load site table number file) → Caused (load_script site table number file)
-  load_task_caused site table number file e = task_inputs (Load site table number file) _ e (λ s csv inputs.
+  load_task_caused site table number file e = task_inputs (Load site table number file) _ e tt (λ s csv inputs.
       load_caused (record { site = site; table = table; number = number; file = file; s = s; csv = csv; asked = e; inputs = inputs }) (table_number table s) refl)
 
 -- ---- what Done comes with

@@ -5,6 +5,7 @@ pub mod Refusing
 pub mod Saying
 pub mod Causes
 pub mod TwinReasons
-pub mod Outcomes
+pub mod Generating
+mod Outcomes
 mod AgreedWorlds
 mod Tapes

@@ -12,7 +12,7 @@ use Rattle.pdn_query.specs.World.{WorldModel, RoseIn}
 use Rattle.pdn_script.specs.Ways.{IsPlain}
 use Rattle.pdn_script.proofs.Ends.{status_has, done_text, memory_end}
 use Rattle.pdn_commands.specs.Causes.{IsDone}
-use Rattle.pdn_commands.specs.Commands.{Task, Run, Check, Twin, Load, task_of, task_script, run_script, check_script, script}
+use Rattle.pdn_commands.specs.Commands.{Task, Run, Check, Twin, Load, Generate, task_of, task_script, run_script, check_script, script}
 use Rattle.pdn_commands.specs.Script.{load_script}
 use Rattle.pdn_commands.specs.Twinning.{of_each, twin_script}
 use Rattle.pdn_commands.specs.Outcomes.{HasCause, IsAllDone}
@@ -20,6 +20,9 @@ use Rattle.pdn_commands.specs.TwinCauses.{IsTwinned}
 use Rattle.pdn_commands.proofs.Refusing.{refusals_map}
 use Rattle.pdn_commands.proofs.Saying.{texts_map}
 use Rattle.pdn_commands.proofs.Causes.{Refused as RefusedAlone, run_caused, check_caused, load_task_caused, run_text, check_text, load_task_text}
+use Rattle.pdn_commands.specs.Generating.{generate_script}
+use Rattle.pdn_commands.specs.Generated.{IsGenerated}
+use Rattle.pdn_commands.proofs.Generating.{generate_caused, generate_text}
 use Rattle.pdn_commands.proofs.TwinReasons.{Refused, twin_caused, twin_text}
 
 module _ (tape : Tape) (rose : Who → Type 0) (told : Told) (words : List (List ℕ)) where
@@ -51,6 +54,7 @@ module _ (tape : Tape) (rose : Who → Type 0) (told : Told) (words : List (List
   task_caused (Some (Check file)) e = alone (check_script file) (check_caused tape rose told words file e)
   task_caused (Some (Twin site file folder workers)) e = twin_caused tape rose told words site file folder workers e
   task_caused (Some (Load site table number file)) e = alone (load_script site table number file) (load_task_caused tape rose told words site table number file e)
+  task_caused (Some (Generate seed patients workers)) e = alone (generate_script seed patients) (generate_caused words seed patients workers e rose told)
 
   cause_of : (result : Status) → Refused rose told words result → HasCause rose told words result
   cause_of status.Done h = absurd h
@@ -86,8 +90,9 @@ module _ (tape : Tape) (told : Told) (words : List (List ℕ)) where
   task_text None e = tt
   task_text (Some (Run file workers parties)) e = texts_map (IsDone tape told words) (IsAllDone tape told words) (λ text now is. inl is) told (run_script tape parties file) (run_text tape told words file workers parties e)
   task_text (Some (Check file)) e = texts_map (IsDone tape told words) (IsAllDone tape told words) (λ text now is. inl is) told (check_script file) (check_text tape told words file e)
-  task_text (Some (Twin site file folder workers)) e = texts_map (IsTwinned tape told words) (IsAllDone tape told words) (λ text now is. inr is) told (twin_script of_each tape site file folder) (twin_text tape told words site file folder workers e)
+  task_text (Some (Twin site file folder workers)) e = texts_map (IsTwinned tape told words) (IsAllDone tape told words) (λ text now is. inr (inl is)) told (twin_script of_each tape site file folder) (twin_text tape told words site file folder workers e)
   task_text (Some (Load site table number file)) e = texts_map (IsDone tape told words) (IsAllDone tape told words) (λ text now is. inl is) told (load_script site table number file) (load_task_text tape told words site table number file e)
+  task_text (Some (Generate seed patients workers)) e = texts_map (IsGenerated told words) (IsAllDone tape told words) (λ text now is. inr (inr is)) told (generate_script seed patients) (generate_text words seed patients workers e told)
 
   pub does : (rose : Who → Type 0) (out : List ℕ) (result : Status) (now : Told) → Follows rose told (script tape words) out result now → result ≡ status.Done → IsAllDone tape told words out now
   does rose out result now a done = done_text questions rose told (IsAllDone tape told words) (script tape words) out result now (all_plain tape rose told words) (task_text (task_of words) refl) a done

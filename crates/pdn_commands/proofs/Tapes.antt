@@ -5,7 +5,7 @@ use Rattle.pdn_sql.specs.declared.query.Query.{Query}
 use Rattle.pdn_view.specs.declared.view.Party.{Party}
 use Rattle.pdn_broker.specs.Runs.{Tape}
 use Rattle.pdn_query.specs.Script.{Script}
-use Rattle.pdn_commands.specs.Commands.{Task, Run, Check, Twin, Load, task_of, task_script, run_script, shown, SameOnTapes}
+use Rattle.pdn_commands.specs.Commands.{Task, Run, Check, Twin, Load, Generate, task_of, task_script, run_script, shown, SameOnTapes}
 use Rattle.pdn_commands.specs.Running.{queries_script}
 use Rattle.pdn_commands.specs.Script.{with_inputs, with_queries}
 use Rattle.pdn_commands.specs.Twinning.{of_each}
@@ -26,6 +26,7 @@ module _ (tape other : Tape) where
   task_same (Some (Check file)) none = refl
   task_same (Some (Twin site file folder workers)) none = cc
   task_same (Some (Load site table number file)) none = refl
+  task_same (Some (Generate seed patients workers)) none = refl
 
 pub same_on_tapes : SameOnTapes
 same_on_tapes tape other words none = task_same tape other (task_of words) none

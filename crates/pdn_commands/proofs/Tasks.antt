@@ -9,7 +9,7 @@ use Rattle.pdn_twin.specs.Twins.{TwinWords}
 use Rattle.pdn_query.specs.Questions.{Told, OnlyAt}
 use Rattle.pdn_query.specs.Walk.{End, Along}
 use Rattle.pdn_query.specs.World.{WorldModel}
-use Rattle.pdn_commands.specs.Commands.{Task, Run, Twin, Load, task_of, task_script, run_task, loads, runs}
+use Rattle.pdn_commands.specs.Commands.{Task, Run, Twin, Load, Generate, task_of, task_script, run_task, loads, runs}
 
 -- the script is that of the task that the words ask for
 pub asked : {a b : WorldModel} {end : End} (views : TwinWords → TwinWords) (tape : Tape) (words : List (List ℕ)) (task : Option Task) → task ≡ task_of words → Along a b (task_script views tape task) end →
@@ -34,6 +34,9 @@ twin_takes site file folder workers task e off = let on : runs (Some (Twin site 
 
 pub run_takes : {X : Type 0} (file : List ℕ) (workers : ℕ) (parties : List Party) (task : Option Task) → Some (Run file workers parties) ≡ task → runs task ≡ false → X
 run_takes file workers parties task e off = let on : runs (Some (Run file workers parties)) ≡ false = subst (λ (t : Option Task). runs t ≡ false) (sym e) off in cc
+
+pub generate_takes : {X : Type 0} (seed patients workers : ℕ) (task : Option Task) → Some (Generate seed patients workers) ≡ task → runs task ≡ false → X
+generate_takes seed patients workers task e off = let on : runs (Some (Generate seed patients workers)) ≡ false = subst (λ (t : Option Task). runs t ≡ false) (sym e) off in cc
 
 pub load_takes_none : (site : Site) (old new : Told) → OnlyAt site old new → new.desk ≡ old.desk
 load_takes_none A old new only = only.2

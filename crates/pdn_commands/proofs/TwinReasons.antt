@@ -86,8 +86,8 @@ module _ (tape : Tape) (rose : Who → Type 0) (told : Told) (words : List (List
       (λ same. queries_caused (record { valid = valid; agree = same })))))
 
   pub twin_caused : (site : Site) (file folder : List ℕ) (workers : ℕ) → task_of words ≡ Some (Twin site file folder workers) → Caused (twin_script of_each tape site file folder)
-  twin_caused site file folder workers e = in_inputs told (Refused rose told words) file _ (λ name is h. inl ((Twin site file folder workers, e, is), h))
-      (λ net text hn ht line cause is. inl (record { task = Twin site file folder workers; asked = e; net = net; text = text; net_held = hn; text_held = ht; is = is }))
+  twin_caused site file folder workers e = in_inputs told (Refused rose told words) file _ (λ name is h. inl ((Twin site file folder workers, e, tt, is), h))
+      (λ net text hn ht line cause is. inl (record { task = Twin site file folder workers; asked = e; reads = tt; net = net; text = text; net_held = hn; text_held = ht; is = is }))
       (λ s sql inputs. let twin : AskedTwin told words = record { site = site; file = file; folder = folder; workers = workers; s = s; sql = sql; asked = e; inputs = inputs } in
       in_each told (Refused rose told words) (finding folder) (λ t text. Holds told.files (rows_file folder t) text) (λ t next more text h. more text h) s.tables _ (λ texts held.
       λ read is. in_read told (Refused rose told words) status.Sql _ (AreQueriesIn sql) read is (λ place kind are. inr (twin, are)) (λ queries are.

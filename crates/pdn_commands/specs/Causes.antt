@@ -15,7 +15,8 @@ use Rattle.pdn_schema.specs.Models.{SchemaModel, table_of}
 use Rattle.pdn_schema.specs.Reading.{Says}
 use Rattle.pdn_schema.specs.Rows.{IsRefused}
 use Rattle.pdn_sql.specs.declared.query.Query.{Query}
-use Rattle.pdn_commands.specs.Commands.{Task, Run, Check, Twin, Load, task_of}
+use Rattle.pdn_commands.specs.Commands.{Task, Run, Check, Twin, Load, Generate, task_of}
+use Rattle.pdn_commands.specs.Generated.{IsLargeNetwork, IsNetworkSpent}
 use Rattle.pdn_query.specs.Answering.{IsTaken, KeepsAll, AllValid, units_over}
 use Rattle.pdn_commands.specs.Running.{IsReached, AreAnswers, with_given}
 use Rattle.pdn_commands.specs.Checking.{AreReported}
@@ -26,21 +27,31 @@ use Rattle.pdn_query.specs.Questions.{Told, Unbound, Broken, Hidden, IsBound, Ho
 use Rattle.pdn_commands.specs.Script.{table_number, loaded_text}
 use Rattle.pdn_keeper.specs.Batches.{batch_held}
 
--- the file that a task reads besides the schema
+-- the file that a task reads besides the schema; `gen` reads none
 abbrev pub file_of : Task → List ℕ
 file_of (Run file workers parties) = file
 file_of (Check file) = file
 file_of (Twin site file folder workers) = file
 file_of (Load site table number file) = file
+file_of (Generate seed patients workers) = []
+
+-- a task reads the schema and its file: each but `gen` does
+abbrev pub ReadsFiles : Task → Type 0
+ReadsFiles (Run file workers parties) = Unit {0}
+ReadsFiles (Check file) = Unit {0}
+ReadsFiles (Twin site file folder workers) = Unit {0}
+ReadsFiles (Load site table number file) = Unit {0}
+ReadsFiles (Generate seed patients workers) = ⊥
 
 -- A command reads a file of this name.
 abbrev pub Reads : List (List ℕ) → List ℕ → Type 0
-Reads words name = (task : Task) × (task_of words ≡ Some task) × ((name ≡ codes "net.schema") ⊎ (name ≡ file_of task))
+Reads words name = (task : Task) × (task_of words ≡ Some task) × ReadsFiles task × ((name ≡ codes "net.schema") ⊎ (name ≡ file_of task))
 
 -- A command's files are there, and the schema file is refused so.
 pub record IsSchemaFault (told : Told) (words : List (List ℕ)) (line cause : ℕ) : Type 0 where
   pub task : Task
   pub asked : task_of words ≡ Some task
+  pub reads : ReadsFiles task
   pub net : List ℕ
   pub text : List ℕ
   pub net_held : Holds told.files (codes "net.schema") (Some net)
@@ -195,9 +206,9 @@ Cause rose told words (status.Schema line cause) = IsSchemaFault told words line
 Cause rose told words (status.Sql place kind) = CauseSql told words place kind
 Cause rose told words (status.Plan kind name) = CausePlan told words kind name
 Cause rose told words (status.Forbidden column label) = CauseUnbound told words (Hidden column label)
-Cause rose told words (status.TooLarge limit unit) = IsTooLarge told words limit unit
+Cause rose told words (status.TooLarge limit unit) = IsTooLarge told words limit unit ⊎ IsLargeNetwork told words limit unit
 Cause rose told words (status.BadRows site table wrong) = HasWrongRows told words site table wrong
-Cause rose told words status.TicketsSpent = IsSpent told words
+Cause rose told words status.TicketsSpent = IsSpent told words ⊎ IsNetworkSpent told words
 Cause rose told words (status.Csv entry cause) = (table : AskedTable told words) × AreRowsIn (table_of table.load.s table.at) table.load.csv (Err (entry, cause))
 Cause rose told words (status.BatchDiffers row) = IsAnswered told words (Differs row)
 Cause rose told words (status.OverBound column) = CauseBound told words column

@@ -18,6 +18,7 @@ use Rattle.pdn_query.specs.Showing.{all_parties, parties_of}
 use Rattle.pdn_commands.specs.Script.{with_inputs, with_queries, load_script}
 use Rattle.pdn_commands.specs.Running.{queries_script}
 use Rattle.pdn_commands.specs.Checking.{report_script}
+use Rattle.pdn_commands.specs.Generating.{generate_script}
 use Rattle.pdn_commands.specs.Twinning.{of_each, of_first, twin_script}
 use Rattle.pdn_commands.specs.declared.command.Command.{Command}
 use Rattle.pdn_commands.specs.declared.command.Command.TheVariants as command
@@ -27,13 +28,15 @@ pub data Task : Type 0 where
   Check : List ℕ → Task  -- the SQL file
   Twin : Site → List ℕ → List ℕ → ℕ → Task  -- of this site, the SQL file, the folder, and how many workers
   Load : Site → List ℕ → ℕ → List ℕ → Task  -- at this site, of the table of this name, the batch of this number, from the CSV file
+  Generate : ℕ → ℕ → ℕ → Task  -- of the network of this seed, with so many patients, and how many workers
 
 -- what a command of the code asks for
 abbrev pub seen : Command → Task
 seen (command.Run file workers show) = Run file.now workers.count (parties_of show)
 seen (command.Check file) = Check file.now
 seen (command.Twin site file folder workers) = Twin site file.now folder.now workers.count
-seen (command.Load site table batch file) = Load site table.now batch file.now
+seen (command.Load site batch) = Load site batch.table.now batch.number batch.file.now
+seen (command.Generate size workers) = Generate size.seed size.patients workers.count
 
 -- 1 to 16, without a leading zero
 abbrev pub is_workers : List ℕ → ℕ → Bool
@@ -94,10 +97,41 @@ abbrev pub twin_task : List (List ℕ) → Option Task
 twin_task (site ∷ file ∷ folder ∷ workers ∷ []) = twin_of (site_of site) file folder (workers_of workers)
 twin_task words = None
 
+-- a number that isn't 0 has no leading zero
+abbrev pub is_seed : List ℕ → Bool
+is_seed word = nat_le (length word) 1 || not (slice_index word 0 == 48)
+
+-- 0 to 2 ^ 32 - 1, without a leading zero
+abbrev pub seed_of : List ℕ → Option ℕ
+seed_of word = option_and_then (λ n. if is_seed word then Some n else None) (number_of word)
+
+-- 1 to 100, without a leading zero
+abbrev pub is_patients : List ℕ → ℕ → Bool
+is_patients word n = nat_le 1 n && nat_le n 100 && not (slice_index word 0 == 48)
+
+abbrev pub patients_of : List ℕ → Option ℕ
+patients_of word = option_and_then (λ n. if is_patients word n then Some n else None) (number_of word)
+
+abbrev pub both_of : Option ℕ → Option ℕ → Option (ℕ × ℕ)
+both_of (Some seed) (Some patients) = Some (seed, patients)
+both_of seed patients = None
+
+abbrev pub size_of : List ℕ → List ℕ → Option (ℕ × ℕ)
+size_of seed patients = both_of (seed_of seed) (patients_of patients)
+
+abbrev pub generate_of : Option (ℕ × ℕ) → Option ℕ → Option Task
+generate_of (Some size) (Some workers) = Some (Generate size.0 size.1 workers)
+generate_of size workers = None
+
+-- `gen <seed> <patients> <workers>`
+abbrev pub generate_task : List (List ℕ) → Option Task
+generate_task (seed ∷ patients ∷ workers ∷ []) = generate_of (size_of seed patients) (workers_of workers)
+generate_task words = None
+
 abbrev pub task_of : List (List ℕ) → Option Task
 task_of [] = None
 task_of (verb ∷ words) = if bytes_eq verb (codes "run") then run_task words else if bytes_eq verb (codes "load") then load_task words
-    else if bytes_eq verb (codes "check") then check_task words else if bytes_eq verb (codes "twin") then twin_task words else None
+    else if bytes_eq verb (codes "check") then check_task words else if bytes_eq verb (codes "twin") then twin_task words else if bytes_eq verb (codes "gen") then generate_task words else None
 
 abbrev pub same_site : Site → Site → Bool
 same_site A A = true
@@ -111,14 +145,16 @@ loads site (Some (Run file workers parties)) = false
 loads site (Some (Check file)) = false
 loads site (Some (Twin at file folder workers)) = false
 loads site (Some (Load at table number file)) = same_site site at
+loads site (Some (Generate seed patients workers)) = false
 
--- a run or a twin is asked for: only these take tickets
+-- a run, a twin or a `gen` is asked for: only these take tickets
 abbrev pub runs : Option Task → Bool
 runs None = false
 runs (Some (Run file workers parties)) = true
 runs (Some (Check file)) = false
 runs (Some (Twin site file folder workers)) = true
 runs (Some (Load at table number file)) = false
+runs (Some (Generate seed patients workers)) = true
 
 -- whose views are asked for
 abbrev pub shown : Option Task → List Party
@@ -127,6 +163,7 @@ shown (Some (Run file workers parties)) = parties
 shown (Some (Check file)) = []
 shown (Some (Twin site file folder workers)) = party_of site ∷ []
 shown (Some (Load at table number file)) = []
+shown (Some (Generate seed patients workers)) = []
 
 abbrev pub run_script : Tape → List Party → List ℕ → Script
 run_script tape parties file = with_inputs file (λ s sql. with_queries sql (queries_script tape parties s 1))
@@ -141,6 +178,7 @@ task_script views tape (Some (Run file workers parties)) = run_script tape parti
 task_script views tape (Some (Check file)) = check_script file
 task_script views tape (Some (Twin site file folder workers)) = twin_script views tape site file folder
 task_script views tape (Some (Load site table number file)) = load_script site table number file
+task_script views tape (Some (Generate seed patients workers)) = generate_script seed patients
 
 -- what the words ask for, on this tape
 abbrev pub script : Tape → List (List ℕ) → Script

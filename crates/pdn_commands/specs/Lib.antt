@@ -4,6 +4,8 @@ pub mod Checking
 pub mod Twinning
 pub mod HandedOn
 pub mod Commands
+pub mod Generating
+pub mod Generated
 pub mod Causes
 pub mod TwinCauses
 pub mod Outcomes

@@ -1,14 +1,16 @@
 //! The words of the command line.
-ghost use Rattle.std.specs.Prelude.{◌≡◌, ◌≤◌, ◌∷◌, Some, map, length, IsTrue};
+ghost use Rattle.std.specs.Prelude.{◌≡◌, ◌≤◌, ◌∷◌, Some, map, length, IfSome, IsTrue};
 ghost use Rattle.std.specs.Char.{is_ascii_digit};
 ghost use Rattle.std.specs.List.{list_all};
 ghost use Rattle.std.specs.String.{string_bytes};
 ghost use Rattle.std.specs.Option.{option_map};
 ghost use Rattle.pdn_base.specs.Numbers.{value_of};
-ghost use Rattle.pdn_commands.specs.Commands.{task_of, run_task, show_task, check_task, twin_task, load_task, workers_of, shown_of, site_of, batch_of, seen};
+ghost use Rattle.pdn_commands.specs.Commands.{task_of, run_task, show_task, check_task, twin_task, load_task, generate_task, size_of, seed_of, patients_of, workers_of, shown_of, site_of, batch_of, seen};
 ghost use Rattle.pdn_query.specs.Showing.{parties_of};
 
+use crate::load::BatchFile;
 use pdn_base::{Site, number};
+use pdn_gen::Size;
 use pdn_query::{Show, Workers};
 
 /// What a command line asks for.
@@ -32,12 +34,9 @@ pub enum Command<'a> {
         workers: Workers,
     },
     /// `load <a or b> <table> <batch> <csvfile>`
-    Load {
-        site: Site,
-        table: &'a str,
-        batch: u64,
-        file: &'a str,
-    },
+    Load(Site, BatchFile<'a>),
+    /// `gen <seed> <patients> <workers>`
+    Generate(Size, Workers),
 }
 
 /// What the words ask for, where they are in the table of commands.
@@ -52,6 +51,7 @@ pub fn read_command(words: &[String]) -> Option<Command<'_>>
         "load" => read_load(rest),
         "check" => read_check(rest),
         "twin" => read_twin(rest),
+        "gen" => read_generate(rest),
         _ => None,
     }
 }
@@ -132,14 +132,63 @@ fn read_load(words: &[String]) -> Option<Command<'_>>
     ensures { option_map seen result ≡ load_task (map string_bytes words.now) }
 {
     match words {
-        [site, table, batch, file] => Some(Command::Load {
-            site: read_site(site.as_str())?,
-            table: table.as_str(),
-            batch: read_batch(batch.as_bytes())?,
-            file: file.as_str(),
-        }),
+        [site, table, batch, file] => {
+            let site = read_site(site.as_str())?;
+            let batch = BatchFile {
+                table: table.as_str(),
+                number: read_batch(batch.as_bytes())?,
+                file: file.as_str(),
+            };
+            Some(Command::Load(site, batch))
+        }
         _ => None,
     }
+}
+
+fn read_generate(words: &[String]) -> Option<Command<'_>>
+    ensures { option_map seen result ≡ generate_task (map string_bytes words.now) }
+{
+    match words {
+        [seed, patients, workers] => {
+            let size = read_size(seed.as_bytes(), patients.as_bytes())?;
+            let workers = read_workers(workers.as_bytes())?;
+            Some(Command::Generate(size, workers))
+        }
+        _ => None,
+    }
+}
+
+fn read_size(seed: &[u8], patients: &[u8]) -> Option<Size>
+    ensures { option_map (λ size. (size.seed, size.patients)) result
+        ≡ size_of seed.now patients.now }
+{
+    Some(Size {
+        seed: read_seed(seed)?,
+        patients: read_patients(patients)?,
+    })
+}
+
+// 0 to 2^32 - 1, without a leading zero.
+fn read_seed(word: &[u8]) -> Option<u32>
+    ensures { result ≡ seed_of word.now }
+{
+    let seed = number(word)?;
+    if word.len() > 1 && word[0] == b'0' {
+        return None;
+    }
+    Some(seed)
+}
+
+// 1 to 100, without a leading zero.
+fn read_patients(word: &[u8]) -> Option<u64>
+    ensures is { result ≡ patients_of word.now }
+    ensures few { IfSome result (λ patients. patients ≤ 100) }
+{
+    let patients = number(word)?;
+    if patients < 1 || patients > 100 || word[0] == b'0' {
+        return None;
+    }
+    Some(u64::from(patients))
 }
 
 fn read_site(word: &str) -> Option<Site>

@@ -4,6 +4,7 @@
 mod check;
 mod command;
 mod folder;
+mod generate;
 mod inputs;
 mod laws;
 mod load;

@@ -20,7 +20,7 @@ use pdn_script::{Stop, refused, refused_at};
 use std::alloc::Global;
 
 /// What a load asks for: the batch of this number of the table of this name, from this CSV file.
-#[derive(Clone, Copy)]
+#[derive(Clone, Copy, Debug)]
 pub struct BatchFile<'a> {
     pub table: &'a str,
     pub number: u64,

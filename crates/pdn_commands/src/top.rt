@@ -15,7 +15,8 @@ ghost use Rattle.pdn_script.specs.Stops.{end_of};
 
 use crate::check::check;
 use crate::command::{Command, read_command};
-use crate::load::{BatchFile, load};
+use crate::generate::generate;
+use crate::load::load;
 use crate::run::run;
 use crate::twin::{TwinFiles, twin};
 use pdn_base::Status;
@@ -46,7 +47,8 @@ pub fn pdn<R: Threads + Sync, W: Outside, D: Deal + Watch>(
         (one_view_script (D.tape deal.now) (map string_bytes words.now)) result }
 
     // Done comes only with the answer of each query over the rows of both sites, the schema with the report of each query, the
-    // line of the batch that is then kept, or the twin of each query in two worlds that agree in what is public.
+    // line of the batch that is then kept, the twin of each query in two worlds that agree in what is public, or the answers in short
+    // of a stated network's standing queries.
     ensures counted { let old = W.state world.old in let new = W.state world.new in
         result ≡ Status.Done → Wrote old.written new.written (λ text.
         IsAllDone (D.tape deal.now) old.told (map string_bytes words.now) text new.told) }
@@ -73,7 +75,7 @@ pub fn pdn<R: Threads + Sync, W: Outside, D: Deal + Watch>(
         → ((who : Who) → RoseIn old.counts (W.state world.new).counts who → ⊥)
         → (result ≡ Status.Done) ⊎ (result ≡ Status.Memory) }
 
-    // Only the keeper that a load names changes, and none where memory ran out; only a run and a twin take tickets.
+    // Only the keeper that a load names changes, and none where memory ran out; only a run, a twin and a `gen` take tickets.
     ensures kept_a { loads A (task_of (map string_bytes words.now)) ≡ false
         → (W.state world.new).told.a ≡ (W.state world.old).told.a }
     ensures kept_b { loads B (task_of (map string_bytes words.now)) ≡ false
@@ -162,20 +164,10 @@ fn follow<R: Threads + Sync, W: Outside, D: Deal + Watch>(
             let asked = TwinFiles { site, file, folder };
             twin(alloc, asked, world, &crew)
         }
-        Some(
-            Command::Load {
-                site,
-                table,
-                batch,
-                file,
-            },
-        ) => {
-            let task = BatchFile {
-                table,
-                number: batch,
-                file,
-            };
-            load(alloc, site, task, world)
+        Some(Command::Load(site, batch)) => load(alloc, site, batch, world),
+        Some(Command::Generate(size, workers)) => {
+            let crew = Crew { rt, deal, workers };
+            generate(alloc, size, world, &crew)
         }
         None => Err(refused(alloc, Status::Words)),
     }

@@ -1,0 +1,4 @@
+mod StandingLaws
+mod Going
+mod Worded
+mod Folds
