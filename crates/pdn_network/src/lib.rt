@@ -6,5 +6,5 @@ mod network;
 mod standing;
 
 pub use laws::standing_queries_are_said;
-pub use network::{MOST_PATIENTS, Network, stated_network};
-pub use standing::{STANDING, standing_queries};
+pub use network::{Network, stated_network};
+pub use standing::standing_queries;

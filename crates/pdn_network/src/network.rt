@@ -8,9 +8,6 @@ use pdn_base::{Code, Kind, Label, Memory, Row, Rows, Tables, Value};
 use pdn_schema::{Column, Name, Schema, Table};
 use std::alloc::Global;
 
-/// The most patients that a network may have.
-pub const MOST_PATIENTS: u64 = 100;
-
 /// A network: its schema, and the tables of both sites.
 #[derive(Debug, Drop)]
 pub struct Network {
@@ -19,7 +16,7 @@ pub struct Network {
     pub b: Tables,
 }
 
-/// The stated network of this seed, with the patients 1 to `patients`.
+/// The stated network of this seed, with the patients 1 to `patients`, at most 100.
 pub fn stated_network(alloc: Global, seed: u32, patients: u64) -> Result<Network, Memory>
     requires { patients ≤ 100 }
     ensures schema { IfOk result (λ made. made.schema ≡ network_schema) }
@@ -60,7 +57,8 @@ fn diag(alloc: Global) -> Result<Table, Memory>
 }
 
 fn column(alloc: Global, name: &str, kind: Kind, mark: Label, per: u32) -> Result<Column, Memory>
-    ensures { IfOk result (λ column. column ≡ record { name = name.now; kind = kind; mark = mark; per = per }) }
+    ensures { IfOk result (λ column. column
+        ≡ record { name = name.now; kind = kind; mark = mark; per = per }) }
 {
     Ok(Column {
         name: Name::new(alloc, name)?,

@@ -7,7 +7,7 @@ use pdn_sql::{Query, SqlErr, read_queries};
 use std::alloc::Global;
 
 /// How many standing queries there are.
-pub const STANDING: u32 = 3;
+const STANDING: u32 = 3;
 
 /// Who fell ill again within 15 to 56 days, the two commonest codes, and how many rows are of day 30 or later.
 const TEXT: &str = "\
