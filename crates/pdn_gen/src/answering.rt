@@ -79,9 +79,11 @@ fn ready_over(alloc: Global, network: &Network, plan: &Plan) -> Result<Prepared,
     requires valid_a { AreValid network.now.schema network.now.a }
     requires valid_b { AreValid network.now.schema network.now.b }
     ensures came { (w : WorldModel) (next : List UnitModel → Script) →
-        Came w w (or_large next (units_over network.now.schema plan.now.root network.now.a network.now.b))
+        Came w w
+        (or_large next (units_over network.now.schema plan.now.root network.now.a network.now.b))
         (λ prepared. next prepared.units) result }
-    ensures ready { IfOk result (AreReady network.now.schema plan.now.root network.now.a network.now.b) }
+    ensures ready { IfOk result
+        (AreReady network.now.schema plan.now.root network.now.a network.now.b) }
 {
     let schema = &network.schema;
     // what a schema keeps is known once it is looked at
