@@ -96,8 +96,8 @@ fn zeros(alloc: Global, count: usize) -> Result<Vec<Word>, Stop>
     Ok(vec![in alloc; Word::from_u64(0); count]?)
 }
 
-// Nanoseconds of processor time so far.
-fn now(rt: &impl CpuClock) -> Result<u64, Stop> {
+/// Nanoseconds of processor time so far.
+pub fn now(rt: &impl CpuClock) -> Result<u64, Stop> {
     let nanos = rt.thread_cpu_time()?.as_nanos();
     Ok(u64::try_from(nanos).unwrap_or(u64::MAX))
 }

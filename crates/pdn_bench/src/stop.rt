@@ -1,6 +1,7 @@
 //! Why nothing was measured.
 use pdn_base::Memory;
 use pdn_circuit::BuildErr;
+use pdn_view::ViewErr;
 use std::alloc::{AllocError, AllocFailed};
 use std::io;
 
@@ -9,8 +10,10 @@ use std::io;
 pub enum Stop {
     /// Memory ran out.
     Memory,
-    /// The circuit is too large.
+    /// The circuit, or the text of a view, is too large.
     Large,
+    /// A view that was printed is not read again.
+    Unread,
     /// The clock, or standard output, failed.
     Outside,
 }
@@ -36,6 +39,15 @@ impl<T: Drop> From<AllocFailed<T>> for Stop {
 impl From<BuildErr> for Stop {
     fn from(_: BuildErr) -> Stop {
         Stop::Large
+    }
+}
+
+impl From<ViewErr> for Stop {
+    fn from(e: ViewErr) -> Stop {
+        match e {
+            ViewErr::At { .. } => Stop::Unread,
+            ViewErr::Memory => Stop::Memory,
+        }
     }
 }
 
