@@ -1,6 +1,6 @@
 #!/usr/bin/env bash
-# Measures the phases of circuits' secret runs with the program crates/pdn_bench, which the gate (.ci/run) or `rt run` built:
-# the words of this script are the program's, else a few sizes are measured. After each table stands the peak memory.
+# Measures the phases of circuits' secret runs, and views printed and read, with the program crates/pdn_bench, which the gate (.ci/run)
+# or `rt run` built: the words of this script are the program's, else a few sizes are measured. After each table stands the peak memory.
 set -eu
 program=$(cd "$(dirname "$0")/../crates/pdn_bench" && pwd)/out/pdn_bench
 [ -x "$program" ] || { echo "no program in crates/pdn_bench/out: run .ci/run first, or rt run in crates/pdn_bench" >&2; exit 1; }
@@ -22,4 +22,7 @@ else
     measure wide 1340 2
     measure deep 300 4000 3
     measure deep 10 4000 3
+    measure view 262144 3
+    measure view 1048576 3
+    measure view 4194304 3
 fi
