@@ -30,6 +30,8 @@ use Rattle.pdn_obl_group.specs.Operators.{distinct_word, distinct_row, unmarked,
 use Rattle.pdn_obl_rank.specs.Keys.{inverted_gates, compared_gates, spread_column, spread_used}
 use Rattle.pdn_obl_rank.specs.Numbers.{Ranked, RowLanes, ranked_of, hit_gates, against_gates, lanes_gates, number_gates}
 use Rattle.pdn_obl_rank.specs.Numbers.{row_gates as ranked_row}
+use Rattle.pdn_tree.specs.declared.node.Node.TheOpen.{Node-F}
+use Rattle.pdn_site.specs.Circuits.{above_gates, grouped_gates, once_gates}
 use Rattle.pdn_obl_rank.specs.Tops.{within, first_gates, limit_gates, kept_gates, cleared_gates, top_gates}
 
 -- these gates take no words
@@ -305,3 +307,23 @@ quiet_kept list order (Some limit) = quiet_limit _ list order limit
 
 pub quiet_top : (list : PaddedList) (order : List Key) (limit : Option ℕ) → Quiet (top_gates list order limit)
 quiet_top list order limit = quiet_then _ _ (quiet_kept list order limit) (λ valid. quiet_then _ _ (quiet_each _ (λ plane. quiet_each _ (λ w. quiet_and _ _) _) _) (λ planes. quiet_gives _))
+
+-- ---- what an operator makes over the one list that it reads
+pub quiet_grouped : (cut : Option Value) (keys : List ℕ) (having : Option ℕ) (list : PaddedList) → Quiet (grouped_gates cut keys having list)
+quiet_grouped (Some v) keys having list = quiet_cut_group list keys v having
+quiet_grouped None keys having list = quiet_group list keys having
+
+pub quiet_once : (cut : Option Value) (list : PaddedList) → Quiet (once_gates cut list)
+quiet_once (Some v) list = quiet_cut_distinct list v
+quiet_once None list = quiet_distinct list
+
+pub quiet_above : {X : Type 0} (cut : Option Value) (x : Node-F X) (list : PaddedList) → Quiet (above_gates cut x list)
+quiet_above cut (Node-F.Scan table) list = quiet_gives list
+quiet_above cut (Node-F.Filter child condition) list = quiet_filter list condition
+quiet_above cut (Node-F.Project child columns) list = quiet_gives (projected list columns)
+quiet_above cut (Node-F.Join left right on) list = quiet_gives list
+quiet_above cut (Node-F.Group child keys having) list = quiet_grouped cut keys having list
+quiet_above cut (Node-F.Count child) list = quiet_count list
+quiet_above cut (Node-F.Distinct child) list = quiet_once cut list
+quiet_above cut (Node-F.Number child partition order) list = quiet_number list partition order
+quiet_above cut (Node-F.Top child order limit) list = quiet_top list order limit
