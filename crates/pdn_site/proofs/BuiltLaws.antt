@@ -1,5 +1,5 @@
 -- Layings as a builder makes them.
-use Rattle.std.proofs.Common.{◌≡◌, ℕ, Bool, true, false, zero, suc, ◌+◌, ◌*◌, ◌-◌, ◌<◌, ◌≤◌, cond, List, [], ◌∷◌, ◌++◌, length, map, Result, Ok, Err, refl, sym, ap, ap₂, ◌∙◌, subst, arith, append-nil, length-append, suc-mul, add-mul}
+use Rattle.std.proofs.Common.{◌≡◌, ℕ, Bool, true, false, zero, suc, ◌+◌, ◌*◌, ◌-◌, ◌<◌, ◌≤◌, cond, List, [], ◌∷◌, ◌++◌, length, map, Result, Ok, Err, refl, sym, ap, ◌∙◌, subst, arith, append-nil, length-append, suc-mul, add-mul}
 use Rattle.std.specs.List.{range_with_len, count_by, All}
 use Rattle.std.specs.Result.{IsErrAnd}
 use Rattle.std.proofs.lemmas.List.Sums.{sum_by-append, sum_by-cons}
@@ -10,7 +10,7 @@ use Rattle.pdn_circuit.specs.declared.gate.Gate.{Gate}
 use Rattle.pdn_circuit.specs.declared.gate.Gate.TheVariants.{Input, Given}
 use Rattle.pdn_circuit.specs.declared.tally.BuildErr.{BuildErr}
 use Rattle.pdn_circuit.specs.Gates.{is_input_of, is_given, input_count, given_count}
-use Rattle.pdn_circuit.specs.Blocks.{Block, Making, gives, one, ◌>>=◌}
+use Rattle.pdn_circuit.specs.Blocks.{Making, gives, one, ◌>>=◌}
 use Rattle.pdn_circuit.specs.Building.{Made, Makes, Refuses, Stops, Tries, Along, Extends}
 use Rattle.pdn_circuit.specs.declared.tally.BuildErr.TheVariants.{Memory}
 use Rattle.pdn_site.proofs.LayingLaws.{from_shaped}

@@ -24,9 +24,9 @@ use pdn_tree::{Below, Node};
 use std::alloc::Global;
 use std::marker::Model;
 
-/// What a site sees of a query: its own tables, and what is public.
+/// A site's side of a query: its own tables, and what is public.
 #[derive(Drop)]
-pub struct SiteView<'a> {
+pub struct OwnSide<'a> {
     pub site: Site,
     pub schema: &'a Schema,
     pub tables: &'a Tables,
@@ -68,21 +68,21 @@ fn leaf_words(
 /// What a plain unit of the site puts in: its rows, as they enter.
 fn plain_words(
     alloc: Global,
-    view: &SiteView<'_>,
+    side: &OwnSide<'_>,
     top: &Node,
     leaves: &[Leaf],
     value: &Value,
     len: u32,
 ) -> Result<Vec<Word>, Memory>
-    requires { leaves.now ≡ leaves_of view.now.schema.now top.now (slice_column view.now.schema.now
+    requires { leaves.now ≡ leaves_of side.now.schema.now top.now (slice_column side.now.schema.now
         top.now) }
     ensures { IfOk result (λ words. words.items
-        ≡ entered (plain_rows view.now.schema.now view.now.tables.now value.now top.now) (kinds
-        view.now.schema.now top.now) len) }
+        ≡ entered (plain_rows side.now.schema.now side.now.tables.now value.now top.now) (kinds
+        side.now.schema.now top.now) len) }
 {
     let tree = narrowed(alloc, top, leaves, value)?;
-    let rows = run_local(alloc, view.schema, &tree, view.tables)?;
-    let kinds = kinds_of(alloc, view.schema, top)?;
+    let rows = run_local(alloc, side.schema, &tree, side.tables)?;
+    let kinds = kinds_of(alloc, side.schema, top)?;
     entered(alloc, rows, kinds.as_slice(), len)
 }
 
@@ -113,21 +113,21 @@ fn is_segment(segment: usize, of: Option<u32>) -> bool
 #[tactic(auto, using(crate::proofs::UnitWordLaws::words_mine, crate::proofs::UnitWordLaws::words_elsewhere, crate::proofs::UnitWordLaws::words_others))]
 fn unit_words(
     alloc: Global,
-    view: &SiteView<'_>,
+    side: &OwnSide<'_>,
     top: &Node,
     leaves: &[Leaf],
     segment: usize,
     unit: &Unit,
 ) -> Result<Vec<Word>, Memory>
-    requires { leaves.now ≡ leaves_of view.now.schema.now top.now (slice_column view.now.schema.now
+    requires { leaves.now ≡ leaves_of side.now.schema.now top.now (slice_column side.now.schema.now
         top.now) }
     ensures { IfOk result (λ words. words.items
-        ≡ words_in view.now.site view.now.schema.now view.now.tables.now top.now segment
+        ≡ words_in side.now.site side.now.schema.now side.now.tables.now top.now segment
         unit.now) }
 {
-    if is_segment(segment, unit.segment) && is_of(view.site, unit.kind) {
+    if is_segment(segment, unit.segment) && is_of(side.site, unit.kind) {
         let value = value_of(unit);
-        plain_words(alloc, view, top, leaves, &value, unit.len)
+        plain_words(alloc, side, top, leaves, &value, unit.len)
     } else {
         Ok(Vec::new(alloc))
     }
@@ -138,21 +138,21 @@ fn unit_words(
 #[tactic(auto, using(crate::proofs::UnitWordLaws::words_next))]
 fn segment_words(
     alloc: Global,
-    view: &SiteView<'_>,
+    side: &OwnSide<'_>,
     top: &Node,
     leaves: &[Leaf],
     segment: usize,
 ) -> Result<Vec<Word>, Memory>
-    requires { leaves.now ≡ leaves_of view.now.schema.now top.now (slice_column view.now.schema.now
+    requires { leaves.now ≡ leaves_of side.now.schema.now top.now (slice_column side.now.schema.now
         top.now) }
     ensures { IfOk result (λ words. words.items
-        ≡ flat_map (words_in view.now.site view.now.schema.now view.now.tables.now top.now segment)
-        view.now.units.now) }
+        ≡ flat_map (words_in side.now.site side.now.schema.now side.now.tables.now top.now segment)
+        side.now.units.now) }
 {
-    let units = view.units;
+    let units = side.units;
     let mut words = Vec::new(alloc);
     for unit in &units.units {
-        let mut more = unit_words(alloc, view, top, leaves, segment, unit)?;
+        let mut more = unit_words(alloc, side, top, leaves, segment, unit)?;
         words.append(&mut more)?;
     }
     Ok(words)
@@ -213,27 +213,27 @@ fn both(left: TreeWords, right: TreeWords) -> Result<TreeWords, Memory>
 /// right.
 pub fn tree_words(
     alloc: Global,
-    view: &SiteView<'_>,
+    side: &OwnSide<'_>,
     node: &Node,
     segment: usize,
 ) -> Result<TreeWords, Memory>
-    requires { StandsFrom view.now.schema.now view.now.staged.now node.now segment }
+    requires { StandsFrom side.now.schema.now side.now.staged.now node.now segment }
     ensures { IfOk result (λ own. own
-        ≡ tree_words view.now.site view.now.schema.now view.now.tables.now
-        (slices_in (length view.now.staged.now) view.now.units.now) node.now segment) }
+        ≡ tree_words side.now.site side.now.schema.now side.now.tables.now
+        (slices_in (length side.now.staged.now) side.now.units.now) node.now segment) }
 {
-    match level_of(alloc, node, view.schema)? {
+    match level_of(alloc, node, side.schema)? {
         Level::Local => {
             return Ok(TreeWords {
-                words: leaf_words(alloc, view.schema, view.tables, node)?,
+                words: leaf_words(alloc, side.schema, side.tables, node)?,
                 segments: segment,
             })
         }
         Level::Sliced => {
-            let leaves = leaves_at(view.schema, view.staged, node, segment);
+            let leaves = leaves_at(side.schema, side.staged, node, segment);
             return Ok(TreeWords {
-                words: segment_words(alloc, view, node, leaves, segment)?,
-                segments: next_number(view.staged, segment),
+                words: segment_words(alloc, side, node, leaves, segment)?,
+                segments: next_number(side.staged, segment),
             });
         }
         Level::Secure => {}
@@ -243,10 +243,10 @@ pub fn tree_words(
             words: Vec::new(alloc),
             segments: segment,
         }),
-        Below::One(child) => tree_words(alloc, view, child, segment),
+        Below::One(child) => tree_words(alloc, side, child, segment),
         Below::Two(left, right) => {
-            let l = tree_words(alloc, view, left, segment)?;
-            let r = tree_words(alloc, view, right, next_of(&l))?;
+            let l = tree_words(alloc, side, left, segment)?;
+            let r = tree_words(alloc, side, right, next_of(&l))?;
             both(l, r)
         }
     }
