@@ -1,5 +1,5 @@
 -- Layings as a builder makes them.
-use Rattle.std.proofs.Common.{◌≡◌, ℕ, Bool, true, false, zero, suc, ◌+◌, ◌*◌, ◌-◌, ◌<◌, ◌≤◌, cond, List, [], ◌∷◌, ◌++◌, length, map, Result, Ok, Err, refl, sym, ap, ap₂, ◌∙◌, subst, arith, append-nil, length-append, suc-mul, add-mul}
+use Rattle.std.proofs.Common.{◌≡◌, ℕ, Bool, true, false, zero, suc, ◌+◌, ◌*◌, ◌-◌, ◌<◌, ◌≤◌, cond, List, [], ◌∷◌, ◌++◌, length, map, Result, Ok, Err, refl, sym, ap, ◌∙◌, subst, arith, append-nil, length-append, suc-mul, add-mul}
 use Rattle.std.specs.List.{range_with_len, count_by, All}
 use Rattle.std.specs.Result.{IsErrAnd}
 use Rattle.std.proofs.lemmas.List.Sums.{sum_by-append, sum_by-cons}
@@ -10,11 +10,11 @@ use Rattle.pdn_circuit.specs.declared.gate.Gate.{Gate}
 use Rattle.pdn_circuit.specs.declared.gate.Gate.TheVariants.{Input, Given}
 use Rattle.pdn_circuit.specs.declared.tally.BuildErr.{BuildErr}
 use Rattle.pdn_circuit.specs.Gates.{is_input_of, is_given, input_count, given_count}
-use Rattle.pdn_circuit.specs.Blocks.{Block, Making, gives, one, ◌>>=◌}
+use Rattle.pdn_circuit.specs.Blocks.{Making, gives, one, ◌>>=◌}
 use Rattle.pdn_circuit.specs.Building.{Made, Makes, Refuses, Stops, Tries, Along, Extends}
 use Rattle.pdn_circuit.specs.declared.tally.BuildErr.TheVariants.{Memory}
 use Rattle.pdn_site.proofs.LayingLaws.{from_shaped}
-use Rattle.pdn_circuit.proofs.Making.{stops, along_begin, along_as, along_next, along_stops, along_end, along_last, along_last_stops, extends_by, extends_extends}
+use Rattle.pdn_circuit.proofs.Making.{stops, along_begin, along_as, along_next, along_stops, along_end, along_last, along_last_stops, extends_by, extends_extends, extends_self}
 use Rattle.pdn_obl_rows.proofs.Walks.{first_stops, first_made}
 use Rattle.pdn_obl_rows.specs.Encoding.{list_from, planes_from}
 use Rattle.std.proofs.lemmas.List.Elements.{All-nil, All-cons}
@@ -165,6 +165,13 @@ ends_lays old new s s' laying (Err err) e = e
 -- a call that fails where its part of the laying stops
 pub lays_exit : (old new : Made) (s s' : ℕ) (laying : Laying PaddedList) (result : Result PaddedList BuildErr) (err : BuildErr) → IsErrAnd result (λ e. e ≡ err) → Stops old new (laying (taken_by old.gates s) (length old.gates)) err → Lays old new s s' laying result
 lays_exit old new s s' laying result err is h = lays_ends old new s s' laying result (ends_exit old new (laying (taken_by old.gates s)) (taken_by new.gates s') result err is h)
+
+-- nothing was made
+pub lays_none : (made : Made) → Extends made made
+lays_none made = extends_self made
+
+pub not_laid : (made : Made) (s : ℕ) (laying : Laying PaddedList) (result : Result PaddedList BuildErr) (err : BuildErr) → IsErrAnd result (λ e. e ≡ err) → err ≡ Memory → Lays made made s s laying result
+not_laid made s laying result err is e = lays_exit made made s s laying result err is (subst (λ (x : BuildErr). Stops made made (laying (taken_by made.gates s) (length made.gates)) x) (sym e) (extends_self made))
 
 module _ {X Y : Type 0} (old : Made) (s : ℕ) (before : Laying X) (after : X → Laying Y) where
   pub next_stops : (new : Made) (err : BuildErr) → Stops old new (before (taken_by old.gates s) (length old.gates)) err → Stops old new (next before after (taken_by old.gates s) (length old.gates)) err

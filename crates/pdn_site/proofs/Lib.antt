@@ -37,6 +37,7 @@ pub mod BuiltLaws
 pub mod OperatingLaws
 pub mod TreeLaws
 pub mod TreeListLaws
+pub mod ReadsLaws
 pub mod RootingLaws
 pub mod RootWordLaws
 pub mod UnitWordLaws

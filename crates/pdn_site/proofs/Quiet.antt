@@ -1,10 +1,8 @@
 -- Operators take no words from outside.
-use Rattle.std.proofs.Common.{◌≡◌, ℕ, zero, suc, ◌+◌, Bool, true, false, cond, List, [], ◌∷◌, ◌++◌, length, Option, Some, None, refl, sym, ap, arith}
+use Rattle.std.proofs.Common.{◌≡◌, ℕ, zero, suc, ◌+◌, Bool, true, false, cond, List, [], ◌∷◌, ◌++◌, length, Option, Some, None, refl, arith}
 use Rattle.std.specs.List.{count_by}
 use Rattle.std.proofs.lemmas.List.Sums.{sum_by-append}
-use Rattle.std.specs.Prelude.{slice_index, slice_index_or, nat_eq, nat_lt}
-use Rattle.std.specs.List.{range_with_len, list_any}
-use Rattle.std.specs.Int.{bit_at}
+use Rattle.std.specs.Prelude.{slice_index_or, nat_eq}
 use Rattle.pdn_base.specs.declared.site.Site.TheVariants.{A, B}
 use Rattle.pdn_base.specs.declared.marks.Kind.{Kind}
 use Rattle.pdn_base.specs.declared.value.Value.{Value}
@@ -21,16 +19,18 @@ use Rattle.pdn_circuit.specs.declared.gate.Gate.TheVariants.{Const, Xor, And, Sp
 use Rattle.pdn_circuit.specs.Gates.{is_input_of, is_given, input_count, given_count}
 use Rattle.pdn_circuit.specs.Blocks.{Block, Making, gives, one, ◌>>=◌, each, carry_gates, add_bit_gates}
 use Rattle.pdn_circuit.specs.Compare.{not_gates, or_gates, agree_gates, all_gates, all_of_gates, equal_gates, less_gates, sum_gates, plus_gates}
-use Rattle.pdn_circuit.specs.Laying.{same_row, next_row, run_after, rest_of_run, run_gates, more_runs, word_gates, words_of_rows, rows_of_word, lay_gates}
+use Rattle.pdn_circuit.specs.Laying.{same_row, run_after, rest_of_run, run_gates, more_runs, word_gates, rows_of_word, lay_gates}
 use Rattle.pdn_obl_rows.specs.Lists.{PaddedList}
-use Rattle.pdn_obl_rows.specs.Conditions.{added_gates, term_gates, operand_gates, op_gates, compare_gates, cmp_gates, joined_after, joined_by, clause_gates, cond_gates}
+use Rattle.pdn_obl_rows.specs.Conditions.{added_gates, term_gates, operand_gates, op_gates, cmp_gates, joined_after, joined_by, clause_gates, cond_gates}
 use Rattle.pdn_obl_rows.specs.Operators.{filter_word, filter_gates, append_gates, laid_gates, join_word, joined_gates, join_gates, append_picks, plane_of, source_picks, projected}
 use Rattle.pdn_obl_group.specs.Loops.{in_turn, each_word, spread_gates, row_gates, match_gates, goes_past, mark_later, later_gates, SpreadRow}
 use Rattle.pdn_obl_group.specs.Operators.{distinct_word, distinct_row, unmarked, distinct_gates, Seen, none_seen, group_word, group_row, having_gates, group_valid, first_mentions, group_gates, bit_gates, count_row, count_gates, bit_plane, value_gates, any_row, cut_distinct_gates, cut_group_row, cut_group_gates}
-use Rattle.pdn_obl_rank.specs.Keys.{inverted_gates, compared_gates, spread_column, spread_used}
-use Rattle.pdn_obl_rank.specs.Numbers.{Ranked, RowLanes, ranked_of, hit_gates, against_gates, lanes_gates, number_gates}
+use Rattle.pdn_obl_rank.specs.Keys.{inverted_gates, compared_gates, spread_column}
+use Rattle.pdn_obl_rank.specs.Numbers.{Ranked, ranked_of, against_gates, lanes_gates, number_gates}
 use Rattle.pdn_obl_rank.specs.Numbers.{row_gates as ranked_row}
-use Rattle.pdn_obl_rank.specs.Tops.{within, first_gates, limit_gates, kept_gates, cleared_gates, top_gates}
+use Rattle.pdn_tree.specs.declared.node.Node.TheOpen.{Node-F}
+use Rattle.pdn_site.specs.Circuits.{above_gates, grouped_gates, once_gates}
+use Rattle.pdn_obl_rank.specs.Tops.{within, limit_gates, kept_gates, top_gates}
 
 -- these gates take no words
 pub record TakesNone (gates : List Gate) : Type 0 where
@@ -305,3 +305,23 @@ quiet_kept list order (Some limit) = quiet_limit _ list order limit
 
 pub quiet_top : (list : PaddedList) (order : List Key) (limit : Option ℕ) → Quiet (top_gates list order limit)
 quiet_top list order limit = quiet_then _ _ (quiet_kept list order limit) (λ valid. quiet_then _ _ (quiet_each _ (λ plane. quiet_each _ (λ w. quiet_and _ _) _) _) (λ planes. quiet_gives _))
+
+-- ---- what an operator makes over the one list that it reads
+pub quiet_grouped : (cut : Option Value) (keys : List ℕ) (having : Option ℕ) (list : PaddedList) → Quiet (grouped_gates cut keys having list)
+quiet_grouped (Some v) keys having list = quiet_cut_group list keys v having
+quiet_grouped None keys having list = quiet_group list keys having
+
+pub quiet_once : (cut : Option Value) (list : PaddedList) → Quiet (once_gates cut list)
+quiet_once (Some v) list = quiet_cut_distinct list v
+quiet_once None list = quiet_distinct list
+
+pub quiet_above : {X : Type 0} (cut : Option Value) (x : Node-F X) (list : PaddedList) → Quiet (above_gates cut x list)
+quiet_above cut (Node-F.Scan table) list = quiet_gives list
+quiet_above cut (Node-F.Filter child condition) list = quiet_filter list condition
+quiet_above cut (Node-F.Project child columns) list = quiet_gives (projected list columns)
+quiet_above cut (Node-F.Join left right on) list = quiet_gives list
+quiet_above cut (Node-F.Group child keys having) list = quiet_grouped cut keys having list
+quiet_above cut (Node-F.Count child) list = quiet_count list
+quiet_above cut (Node-F.Distinct child) list = quiet_once cut list
+quiet_above cut (Node-F.Number child partition order) list = quiet_number list partition order
+quiet_above cut (Node-F.Top child order limit) list = quiet_top list order limit

@@ -1,17 +1,16 @@
 -- A site's words in the root, node by node.
-use Rattle.std.proofs.Common.{◌≡◌, ℕ, zero, suc, ◌+◌, ◌<◌, Bool, true, false, cond, List, [], ◌∷◌, ◌++◌, map, get_or, refl, sym, ap, ap₂, ◌∙◌, subst, arith, append_assoc, append-nil}
-use Rattle.std.specs.List.{flat_map, range_with_len}
+use Rattle.std.proofs.Common.{◌≡◌, ℕ, ◌+◌, Bool, true, false, cond, List, [], ◌∷◌, get_or, refl, sym, ap, ap₂, ◌∙◌, subst}
+use Rattle.std.specs.List.{flat_map}
 use Rattle.std.proofs.lemmas.Bool.{false≢true}
-use Rattle.std.proofs.lemmas.List.Concat.{flat_map-append}
 use Rattle.pdn_base.specs.declared.marks.Kind.{Kind}
 use Rattle.pdn_base.specs.declared.site.Site.{Site}
-use Rattle.pdn_base.specs.declared.cond.Cmp.{Cmp}
 use Rattle.pdn_base.specs.Operators.{Rows, SameRows}
 use Rattle.pdn_schema.specs.Models.{SchemaModel}
-use Rattle.pdn_tree.specs.declared.node.Node.{Node, Node-F, fold-Node, fold-roll-Node, roll-Node}
+use Rattle.pdn_tree.specs.declared.node.Node.{Node, Node-F, fold-Node, fold-roll-Node, roll-Node, out-roll-Node}
 use Rattle.pdn_tree.specs.declared.node.Node.TheFolds.{ind-Node, map-Node}
 use Rattle.pdn_tree.specs.declared.node.Node.TheVariants as node
 use Rattle.pdn_tree.specs.declared.node.Node.TheVariants.{rolls-Scan, rolls-Filter, rolls-Project, rolls-Join, rolls-Group, rolls-Count, rolls-Distinct, rolls-Number, rolls-Top}
+use Rattle.pdn_tree.specs.Walks.{children, below}
 use Rattle.pdn_tree.specs.Meaning.{mean, mean_step}
 use Rattle.pdn_tree.specs.Meaning.{table_of as rows_of}
 use Rattle.pdn_tree.specs.Shapes.{kinds}
@@ -20,7 +19,8 @@ use Rattle.pdn_level.specs.declared.staged.Level.TheVariants as level
 use Rattle.pdn_level.specs.Levels.{Survey, survey, survey_step, level_of_node, kept_level, sliced_if, is_secure, leaf_of, leaves_step}
 use Rattle.pdn_level.specs.Slices.{followed_step}
 use Rattle.pdn_site.specs.SiteRows.{entered, slice_words, Slice, OwnRoot, RootRows, root_by, root_words_step, no_words, words_of_both}
-use Rattle.pdn_site.specs.RootWords.{room_step, room_of, tree_words}
+use Rattle.pdn_site.specs.RootLengths.{leaf_rows_step, leaf_rows}
+use Rattle.pdn_site.specs.RootWords.{tree_words}
 use Rattle.pdn_site.proofs.EnteringLaws.{entered_bag}
 
 -- ---- levels
@@ -63,7 +63,7 @@ module _ (site : Site) (schema : SchemaModel) (tables : List Rows) (slices : Lis
     pub len : o.len ≡ room
 
   abbrev AllCarried : Node → Type 0
-  AllCarried n = Carried (own n) n (means n) (room_of schema n) (level_of_node schema n)
+  AllCarried n = Carried (own n) n (means n) (leaf_rows schema n) (level_of_node schema n)
 
   abbrev Pair : Type 0
   Pair = (n : Node) × AllCarried n
@@ -75,7 +75,7 @@ module _ (site : Site) (schema : SchemaModel) (tables : List Rows) (slices : Lis
       (step (map-Node Node RootRows own (nodes y)))
       (roll-Node (nodes y))
       (mean_step (rows_of tables) (map-Node Node Rows means (nodes y)))
-      (room_step schema (map-Node Node ℕ (room_of schema) (nodes y)))
+      (leaf_rows_step schema (map-Node Node ℕ (leaf_rows schema) (nodes y)))
       (survey_step schema (map-Node Node Survey (survey schema) (nodes y))).level
   layer (Node-F.Scan table) = record { tree = sym (rolls-Scan table); rows = λ h. refl; len = refl }
   layer (Node-F.Filter child condition) = record {
@@ -121,29 +121,23 @@ module _ (site : Site) (schema : SchemaModel) (tables : List Rows) (slices : Lis
 
   pub carried : (n : Node) → AllCarried n
   carried = ind-Node AllCarried (λ x y is.
-      subst (λ (g : Survey). Carried (own (roll-Node x)) (roll-Node x) (means (roll-Node x)) (room_of schema (roll-Node x)) g.level) (sym (fold-roll-Node Survey (survey_step schema) x))
-      (rw (fold-roll-Node RootRows step x, fold-roll-Node Rows (mean_step (rows_of tables)) x, fold-roll-Node ℕ (room_step schema) x)
+      subst (λ (g : Survey). Carried (own (roll-Node x)) (roll-Node x) (means (roll-Node x)) (leaf_rows schema (roll-Node x)) g.level) (sym (fold-roll-Node Survey (survey_step schema) x))
+      (rw (fold-roll-Node RootRows step x, fold-roll-Node Rows (mean_step (rows_of tables)) x, fold-roll-Node ℕ (leaf_rows_step schema) x)
       (subst (λ (z : Node-F Node). Carried
       (step (map-Node Node RootRows own z))
       (roll-Node z)
       (mean_step (rows_of tables) (map-Node Node Rows means z))
-      (room_step schema (map-Node Node ℕ (room_of schema) z))
+      (leaf_rows_step schema (map-Node Node ℕ (leaf_rows schema) z))
       (survey_step schema (map-Node Node Survey (survey schema) z)).level) is (layer y))))
 
-  -- the words below a node that is neither a leaf nor a segment
-  abbrev pub below : Node-F Node → ℕ → OwnRoot
-  below (Node-F.Scan table) = no_words
-  below (Node-F.Filter child condition) = (own child).words
-  below (Node-F.Project child columns) = (own child).words
-  below (Node-F.Join left right on) = words_of_both (own left).words (own right).words
-  below (Node-F.Group child keys having) = (own child).words
-  below (Node-F.Count child) = (own child).words
-  below (Node-F.Distinct child) = (own child).words
-  below (Node-F.Number child partition order) = (own child).words
-  below (Node-F.Top child order limit) = (own child).words
+  -- the words of trees that a node reads, left to right, where it is neither a leaf nor a segment
+  abbrev pub over : List Node → ℕ → OwnRoot
+  over [] = no_words
+  over (child ∷ []) = (own child).words
+  over (left ∷ right ∷ rest) = words_of_both (own left).words (own right).words
 
   abbrev by_parts : Node-F Node → Node → Rows → ℕ → ℕ → OwnRoot
-  by_parts y n rows len i = root_by (level_of_node schema n) site schema tables slices n rows len (below y) i
+  by_parts y n rows len i = root_by (level_of_node schema n) site schema tables slices n rows len (over (children y)) i
 
   abbrev made : Node-F Node → RootRows
   made y = step (map-Node Node RootRows own y)
@@ -167,7 +161,7 @@ module _ (site : Site) (schema : SchemaModel) (tables : List Rows) (slices : Lis
       ∙ ap (λ (t : Node). by_parts y t (own (roll-Node y)).rows (own (roll-Node y)).len i) (carried (roll-Node y)).tree
 
   abbrev leveled : Node-F Node → Node → Level → ℕ → OwnRoot
-  leveled y n l i = root_by l site schema tables slices n (own n).rows (own n).len (below y) i
+  leveled y n l i = root_by l site schema tables slices n (own n).rows (own n).len (over (children y)) i
 
   words_at : (l : Level) (y : Node-F Node) (n : Node) (i : ℕ) → roll-Node y ≡ n → level_of_node schema n ≡ l → (own n).words i ≡ leveled y n l i
   words_at l y n i is h =
@@ -185,17 +179,18 @@ module _ (site : Site) (schema : SchemaModel) (tables : List Rows) (slices : Lis
       (λ x y is i h. words_at level.Sliced x (roll-Node x) i refl h)
 
   -- an operator
-  pub secure_words : (y : Node-F Node) (n : Node) (i : ℕ) → roll-Node y ≡ n → level_of_node schema n ≡ level.Secure → (own n).words i ≡ below y i
-  secure_words y n i is h = words_at level.Secure y n i is h
+  pub secure_words : (n : Node) (i : ℕ) → level_of_node schema n ≡ level.Secure → (own n).words i ≡ over (below n) i
+  secure_words = ind-Node (λ n. (i : ℕ) → level_of_node schema n ≡ level.Secure → (own n).words i ≡ over (below n) i)
+      (λ x y is i h. words_at level.Secure x (roll-Node x) i refl h ∙ ap (λ (z : Node-F Node). over (children z) i) (sym (out-roll-Node x)))
 
   abbrev leaf : Node → Rows → List Kind → ℕ → ℕ → OwnRoot
   leaf n rows columns len i = record { words = entered rows columns len; segments = i }
 
   -- a leaf's words, by the rows that it means
-  pub leaf_is : (n : Node) (i : ℕ) → level_of_node schema n ≡ level.Local → record { words = entered (means n) (kinds schema n) (room_of schema n); segments = i } ≡ tree_words site schema tables slices n i
+  pub leaf_is : (n : Node) (i : ℕ) → level_of_node schema n ≡ level.Local → record { words = entered (means n) (kinds schema n) (leaf_rows schema n); segments = i } ≡ tree_words site schema tables slices n i
   leaf_is n i h = sym (local_words n i h ∙ ap₂ (λ (rs : Rows) k. leaf n rs (kinds schema n) k i) ((carried n).rows h) (carried n).len)
 
 -- rows enter in the same way in whatever order they come
-pub means_by : (schema : SchemaModel) (tables : List Rows) (n : Node) (rows : Rows) (columns : List Kind) (len : ℕ) → SameRows rows (mean (rows_of tables) n) → columns ≡ kinds schema n → len ≡ room_of schema n
-    → entered rows columns len ≡ entered (mean (rows_of tables) n) (kinds schema n) (room_of schema n)
-means_by schema tables n rows columns len same e f = ap₂ (λ (ks : List Kind) k. entered rows ks k) e f ∙ entered_bag rows (mean (rows_of tables) n) (kinds schema n) (room_of schema n) same
+pub means_by : (schema : SchemaModel) (tables : List Rows) (n : Node) (rows : Rows) (columns : List Kind) (len : ℕ) → SameRows rows (mean (rows_of tables) n) → columns ≡ kinds schema n → len ≡ leaf_rows schema n
+    → entered rows columns len ≡ entered (mean (rows_of tables) n) (kinds schema n) (leaf_rows schema n)
+means_by schema tables n rows columns len same e f = ap₂ (λ (ks : List Kind) k. entered rows ks k) e f ∙ entered_bag rows (mean (rows_of tables) n) (kinds schema n) (leaf_rows schema n) same

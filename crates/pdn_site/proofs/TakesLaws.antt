@@ -27,11 +27,11 @@ use Rattle.pdn_level.specs.Slices.{Followed, followed_step, followed}
 use Rattle.pdn_level.specs.Cutting.{slice_column}
 use Rattle.pdn_level.specs.Padding.{Padding}
 use Rattle.pdn_site.specs.Laying.{Taken, Laying, nothing, making, next, list_words, input_list, given_list}
-use Rattle.pdn_site.specs.Circuits.{leaf_list, Laid, laid_leaf, laid_step, laid_part, laid_over, then_gates, grouped_gates, once_gates, all_pinned, counted_kinds, unit_list, net_of}
+use Rattle.pdn_site.specs.Circuits.{leaf_list, Laid, laid_leaf, laid_step, laid_part, laid_over, then_gates, cut_by, all_pinned, counted_kinds, unit_list, net_of}
 use Rattle.pdn_site.specs.SiteRows.{entered, Own, own_leaf, own_step, own_part, own_over, words_below}
 use Rattle.pdn_site.specs.NetMeaning.{unit_net, unit_inputs}
 use Rattle.pdn_site.specs.Taking.{UnitTakes}
-use Rattle.pdn_site.proofs.Quiet.{Quiet, quiet_gives, quiet_filter, quiet_append, quiet_join, quiet_distinct, quiet_group, quiet_count, quiet_cut_distinct, quiet_cut_group, quiet_number, quiet_top}
+use Rattle.pdn_site.proofs.Quiet.{Quiet, quiet_gives, quiet_filter, quiet_append, quiet_join, quiet_once, quiet_grouped, quiet_count, quiet_number, quiet_top}
 use Rattle.pdn_site.proofs.Following.{followed_at}
 use Rattle.pdn_site.proofs.UnitParts.{Parts, parts_leaf, parts_step}
 
@@ -203,14 +203,6 @@ over_fed l a b columns columns_a columns_b padding gates rows_a rows_b q ka kb f
   takes = λ taken n. takes_then l.list gates q taken n (fed.takes taken n);
 }
 
-quiet_once : (flag : Bool) (v : Value) (list : PaddedList) → Quiet (once_gates flag v list)
-quiet_once true v list = quiet_cut_distinct list v
-quiet_once false v list = quiet_distinct list
-
-quiet_grouped : (flag : Bool) (v : Value) (keys : List ℕ) (having : Option ℕ) (list : PaddedList) → Quiet (grouped_gates flag v keys having list)
-quiet_grouped true v keys having list = quiet_cut_group list keys v having
-quiet_grouped false v keys having list = quiet_group list keys having
-
 -- ---- what is made along a slice column, by induction on the tree
 module _ {X : Type 0} (schema : SchemaModel) (leaf : ℕ → ℕ → X) (step : Node-F X → X) (P : X → Type 0) (at_leaf : (table s : ℕ) → P (leaf table s)) (at_step : (y : Node-F ((x : X) × P x)) → P (step (map-Node ((x : X) × P x) X (λ e. e.0) y))) where
   abbrev All : Followed X → Type 0
@@ -266,10 +258,10 @@ module _ (schema : SchemaModel) (ta tb : List Rows) (v : Value) where
   }
   step_fed (Node-F.Group child keys having) =
       over_fed child.0.laid child.0.a child.0.b (counted_kinds child.0.laid.kinds keys) (counted_kinds child.0.a.kinds keys) (counted_kinds child.0.b.kinds keys) _ _ _ _
-      (quiet_grouped (all_pinned (map (slice_at child.0.laid.padding.pinned) keys)) v keys having)
+      (quiet_grouped (cut_by (all_pinned (map (slice_at child.0.laid.padding.pinned) keys)) v) keys having)
       (ap (λ (ks : List Kind). counted_kinds ks keys) child.1.of_a.kinds) (ap (λ (ks : List Kind). counted_kinds ks keys) child.1.of_b.kinds) child.1
   step_fed (Node-F.Count child) = over_fed child.0.laid child.0.a child.0.b _ _ _ _ count_gates _ _ quiet_count refl refl child.1
-  step_fed (Node-F.Distinct child) = over_fed child.0.laid child.0.a child.0.b child.0.laid.kinds child.0.a.kinds child.0.b.kinds _ _ _ _ (quiet_once (all_pinned child.0.laid.padding.pinned) v) child.1.of_a.kinds child.1.of_b.kinds child.1
+  step_fed (Node-F.Distinct child) = over_fed child.0.laid child.0.a child.0.b child.0.laid.kinds child.0.a.kinds child.0.b.kinds _ _ _ _ (quiet_once (cut_by (all_pinned child.0.laid.padding.pinned) v)) child.1.of_a.kinds child.1.of_b.kinds child.1
   step_fed (Node-F.Number child partition order) =
       over_fed child.0.laid child.0.a child.0.b (child.0.laid.kinds ++ kind.Int ∷ []) (child.0.a.kinds ++ kind.Int ∷ []) (child.0.b.kinds ++ kind.Int ∷ []) _ (λ l. number_gates l partition order) _ _ (λ l. quiet_number l partition order)
       (ap (λ (ks : List Kind). ks ++ kind.Int ∷ []) child.1.of_a.kinds) (ap (λ (ks : List Kind). ks ++ kind.Int ∷ []) child.1.of_b.kinds) child.1

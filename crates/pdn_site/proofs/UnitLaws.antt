@@ -45,7 +45,7 @@ use Rattle.pdn_level.proofs.Tracks.{followed_slices}
 use Rattle.pdn_level.proofs.TableBounds.{site_few}
 use Rattle.pdn_site.specs.Laying.{Taken}
 use Rattle.pdn_site.specs.Lists.{Sized, sized, sized_leaf, sized_step}
-use Rattle.pdn_site.specs.Circuits.{table_kinds, Laid, laid_leaf, laid_step, all_pinned, grouped_gates, once_gates, unit_list}
+use Rattle.pdn_site.specs.Circuits.{table_kinds, Laid, laid_leaf, laid_step, all_pinned, grouped_gates, once_gates, cut_by, unit_list}
 use Rattle.pdn_site.specs.SiteRows.{own_leaf, own_step, words_below, unit_words}
 use Rattle.pdn_site.specs.Meaning.{AreTables, Holds, numbers_fit, numbers_step, past, UnitMeans}
 use Rattle.pdn_site.proofs.RowLists.{to_all}
@@ -142,10 +142,10 @@ module _ (schema : SchemaModel) (ta tb : List Rows) (tables_a : AreTables schema
   distinct_good : (p : Parts) (columns : List Kind) → Good inputs words v p columns → Good inputs words v (parts_step ta tb v (Node-F.Distinct p)) columns
   distinct_good p columns good =
       over_good inputs words v p columns columns p.laid.kinds p.a.kinds p.b.kinds (padding_step (Node-F.Distinct p.laid.padding)) (padding_step (Node-F.Distinct p.sized.padding)) (distinct_rows p.rows) (distinct_rows p.a.rows) (distinct_rows p.b.rows)
-      (once_gates (all_pinned p.laid.padding.pinned) v) good good.kinds good.kinds_a good.kinds_b (ap (λ (k : Padding). padding_step (Node-F.Distinct k)) good.padding) good.wide
+      (once_gates (cut_by (all_pinned p.laid.padding.pinned) v)) good good.kinds good.kinds_a good.kinds_b (ap (λ (k : Padding). padding_step (Node-F.Distinct k)) good.padding) good.wide
       (λ few. op (all_pinned p.laid.padding.pinned) refl)
     where
-      op : (b : Bool) → all_pinned p.laid.padding.pinned ≡ b → (list out : PaddedList) → Staged words list columns p.laid.padding.room p.laid.padding.pinned v p.rows → Yields inputs words (once_gates b v list) out
+      op : (b : Bool) → all_pinned p.laid.padding.pinned ≡ b → (list out : PaddedList) → Staged words list columns p.laid.padding.room p.laid.padding.pinned v p.rows → Yields inputs words (once_gates (cut_by b v) list) out
           → Staged words out columns (cond b 1 p.laid.padding.room) p.laid.padding.pinned v (distinct_rows p.rows)
       op true e list out stage y = cut_distinct_staged inputs words ends list columns p.laid.padding.room p.laid.padding.pinned v p.rows stage e out y
       op false e list out stage y = distinct_staged inputs words ends list columns p.laid.padding.room p.laid.padding.pinned v p.rows stage out y
@@ -156,12 +156,12 @@ module _ (schema : SchemaModel) (ta tb : List Rows) (tables_a : AreTables schema
       let named : (ks : List Kind) → ks ≡ columns → map (kind_at ks) keys ++ kind.Int ∷ [] ≡ map (kind_at columns) keys ++ kind.Int ∷ [] = λ ks e. ap (λ (js : List Kind). map (kind_at js) keys ++ kind.Int ∷ []) e in
       over_good inputs words v p columns (map (kind_at columns) keys ++ kind.Int ∷ []) (map (kind_at p.laid.kinds) keys ++ kind.Int ∷ []) (map (kind_at p.a.kinds) keys ++ kind.Int ∷ []) (map (kind_at p.b.kinds) keys ++ kind.Int ∷ [])
       (padding_step (Node-F.Group p.laid.padding keys having)) (padding_step (Node-F.Group p.sized.padding keys having)) (group_rows keys having p.rows) (group_rows keys having p.a.rows) (group_rows keys having p.b.rows)
-      (grouped_gates (all_pinned (map (slice_at p.laid.padding.pinned) keys)) v keys having) good (named p.laid.kinds good.kinds) (named p.a.kinds good.kinds_a) (named p.b.kinds good.kinds_b)
+      (grouped_gates (cut_by (all_pinned (map (slice_at p.laid.padding.pinned) keys)) v) keys having) good (named p.laid.kinds good.kinds) (named p.a.kinds good.kinds_a) (named p.b.kinds good.kinds_b)
       (ap (λ (k : Padding). padding_step (Node-F.Group k keys having)) good.padding)
       (omega (arith, length-append (map (slice_at p.laid.padding.pinned) keys) (false ∷ []), length-append (map (kind_at columns) keys) (kind.Int ∷ []), length-map keys (slice_at p.laid.padding.pinned), length-map keys (kind_at columns)))
       (λ few. op few (all_pinned (map (slice_at p.laid.padding.pinned) keys)) refl)
     where
-      op : p.laid.padding.room ≤ 4096 → (b : Bool) → all_pinned (map (slice_at p.laid.padding.pinned) keys) ≡ b → (list out : PaddedList) → Staged words list columns p.laid.padding.room p.laid.padding.pinned v p.rows → Yields inputs words (grouped_gates b v keys having list) out
+      op : p.laid.padding.room ≤ 4096 → (b : Bool) → all_pinned (map (slice_at p.laid.padding.pinned) keys) ≡ b → (list out : PaddedList) → Staged words list columns p.laid.padding.room p.laid.padding.pinned v p.rows → Yields inputs words (grouped_gates (cut_by b v) keys having list) out
           → Staged words out (map (kind_at columns) keys ++ kind.Int ∷ []) (cond b 1 p.laid.padding.room) (map (slice_at p.laid.padding.pinned) keys ++ false ∷ []) v (group_rows keys having p.rows)
       op few true e list out stage y = cut_group_staged inputs words ends list columns p.laid.padding.room p.laid.padding.pinned v p.rows stage keys having few there fits e out y
       op few false e list out stage y = group_staged inputs words ends list columns p.laid.padding.room p.laid.padding.pinned v p.rows stage keys having few there fits out y

@@ -1,5 +1,5 @@
 -- What units leave of the limits, and units as they are compiled one after the other.
-use Rattle.std.specs.Prelude.{◌≡◌, ℕ, ◌+◌, ◌-◌, ◌≤◌, List, [], ◌∷◌, ◌++◌, map, length, Bool, true, false, Some, None, Result, Err, MatchResult}
+use Rattle.std.specs.Prelude.{◌≡◌, ℕ, ◌+◌, ◌-◌, ◌≤◌, List, [], ◌∷◌, ◌++◌, map, length, Some, None, Result, Err, MatchResult}
 use Rattle.std.specs.List.{flat_map}
 use Rattle.pdn_base.specs.declared.value.Value.{Value}
 use Rattle.pdn_schema.specs.Models.{SchemaModel}

@@ -1,5 +1,5 @@
 -- A laying as a builder makes it: its input words and given words are numbered by those that the builder has.
-use Rattle.std.specs.Prelude.{◌≡◌, ℕ, List, length, map, Result, MatchResult}
+use Rattle.std.specs.Prelude.{◌≡◌, ℕ, Bool, List, length, map, Result, MatchResult}
 use Rattle.std.specs.List.{range_with_len}
 use Rattle.pdn_base.specs.declared.marks.Kind.{Kind}
 use Rattle.pdn_base.specs.declared.site.Site.TheVariants.{A, B}
@@ -11,10 +11,12 @@ use Rattle.pdn_circuit.specs.Building.{Made, Makes, Stops}
 use Rattle.pdn_obl_rows.specs.Lists.{PaddedList, IsShaped}
 use Rattle.pdn_schema.specs.Models.{SchemaModel}
 use Rattle.pdn_base.specs.declared.value.Value.{Value}
-use Rattle.pdn_tree.specs.declared.node.Node.{Node, fold-Node}
+use Rattle.pdn_tree.specs.declared.node.Node.{Node, out-Node}
+use Rattle.pdn_tree.specs.declared.node.Node.TheFolds.{map-Node}
 use Rattle.pdn_level.specs.declared.staged.Leaf.{Leaf}
+use Rattle.pdn_level.specs.Padding.{Padding}
 use Rattle.pdn_site.specs.Laying.{Taken, Laying}
-use Rattle.pdn_site.specs.Circuits.{Part, Laid, laid_leaf, laid_step, Rooted, root_step}
+use Rattle.pdn_site.specs.Circuits.{Laid, laid_leaf, laid_step, is_cut}
 use Rattle.pdn_site.specs.Through.{through}
 
 -- so many gates of one kind, numbered from `from` on; gives the first
@@ -40,6 +42,10 @@ pub record IsListOf (columns : List Kind) (rows : ℕ) (list : PaddedList) : Typ
 abbrev pub laid_through : SchemaModel → Value → Node → List Leaf → Laid
 laid_through schema v n leaves = (through (laid_leaf schema) (laid_step v) n).at leaves
 
+-- whether all groups of a tree's operator, or all rows that it keeps once, hold the unit's value
+abbrev pub cut_through : SchemaModel → Value → Node → List Leaf → Bool
+cut_through schema v n leaves = is_cut (map-Node Node Padding (λ m. (laid_through schema v m leaves).padding) (out-Node n))
+
 -- a list of the root, and the number of the segment that comes next after it
 pub record Rooting : Type 0 where
   pub list : PaddedList
@@ -49,7 +55,3 @@ pub record Rooting : Type 0 where
 abbrev pub LaysFrom : Made → Made → ℕ → Laying PaddedList → Result Rooting BuildErr → Type 0
 LaysFrom old new i laying result =
     MatchResult result (λ found. Makes old new (laying (taken_by old.gates i) (length old.gates)) (found.list, taken_by new.gates found.segments)) (Stops old new (laying (taken_by old.gates i) (length old.gates)))
-
--- what is laid of a tree in the root, where these are the units of each segment
-abbrev pub laid_root : SchemaModel → List (List Part) → Node → Laying PaddedList
-laid_root schema segments n = let top : Rooted = fold-Node Rooted (root_step schema segments) n in top.list

@@ -1,5 +1,5 @@
 -- The circuit of a unit: the lists of the leaves, and the operators above them.
-use Rattle.std.specs.Prelude.{ℕ, ◌+◌, Bool, true, false, cond, List, [], ◌∷◌, ◌++◌, map, replicate, get_or, Option}
+use Rattle.std.specs.Prelude.{ℕ, ◌+◌, Bool, true, false, cond, List, [], ◌∷◌, ◌++◌, map, replicate, get_or, Option, Some, None}
 use Rattle.std.specs.List.{flat_map, list_all}
 use Rattle.pdn_base.specs.declared.marks.Kind.{Kind}
 use Rattle.pdn_base.specs.declared.marks.Kind.TheVariants as kind
@@ -71,13 +71,26 @@ laid_part child kinds padding gates = record {
 abbrev pub laid_over : Laid → List Kind → Padding → (PaddedList → Making PaddedList) → Laid
 laid_over child kinds padding gates = record { is_local = false; kinds = kinds; rows = 0; padding = padding; list = then_gates child.list gates }
 
-abbrev pub grouped_gates : Bool → Value → List ℕ → Option ℕ → PaddedList → Making PaddedList
-grouped_gates true v keys having list = cut_group_gates list keys v having
-grouped_gates false v keys having list = group_gates list keys having
+-- where all groups, or all rows that are kept once, are cut to a value, there is one row at most
+abbrev pub grouped_gates : Option Value → List ℕ → Option ℕ → PaddedList → Making PaddedList
+grouped_gates (Some v) keys having list = cut_group_gates list keys v having
+grouped_gates None keys having list = group_gates list keys having
 
-abbrev pub once_gates : Bool → Value → PaddedList → Making PaddedList
-once_gates true v list = cut_distinct_gates list v
-once_gates false v list = distinct_gates list
+abbrev pub once_gates : Option Value → PaddedList → Making PaddedList
+once_gates (Some v) list = cut_distinct_gates list v
+once_gates None list = distinct_gates list
+
+-- what an operator makes over the one list that it reads; a Scan reads none, and a Join two
+abbrev pub above_gates : {X : Type 0} → Option Value → Node-F X → PaddedList → Making PaddedList
+above_gates cut (Node-F.Scan table) = gives
+above_gates cut (Node-F.Filter child cond) = λ l. filter_gates l cond
+above_gates cut (Node-F.Project child columns) = λ l. gives (projected l columns)
+above_gates cut (Node-F.Join left right on) = gives
+above_gates cut (Node-F.Group child keys having) = grouped_gates cut keys having
+above_gates cut (Node-F.Count child) = count_gates
+above_gates cut (Node-F.Distinct child) = once_gates cut
+above_gates cut (Node-F.Number child partition order) = λ l. number_gates l partition order
+above_gates cut (Node-F.Top child order limit) = λ l. top_gates l order limit
 
 abbrev pub counted_kinds : List Kind → List ℕ → List Kind
 counted_kinds kinds keys = map (kind_at kinds) keys ++ kind.Int ∷ []
@@ -85,11 +98,26 @@ counted_kinds kinds keys = map (kind_at kinds) keys ++ kind.Int ∷ []
 abbrev pub all_pinned : List Bool → Bool
 all_pinned columns = list_all (λ p. p) columns
 
+-- whether all groups of an operator, or all rows that it keeps once, hold the unit's value
+abbrev pub is_cut : Node-F Padding → Bool
+is_cut (Node-F.Scan table) = false
+is_cut (Node-F.Filter below cond) = false
+is_cut (Node-F.Project below columns) = false
+is_cut (Node-F.Join left right on) = false
+is_cut (Node-F.Group below keys having) = all_pinned (map (slice_at below.pinned) keys)
+is_cut (Node-F.Count below) = false
+is_cut (Node-F.Distinct below) = all_pinned below.pinned
+is_cut (Node-F.Number below partition order) = false
+is_cut (Node-F.Top below order limit) = false
+
+abbrev pub cut_by : Bool → Value → Option Value
+cut_by cut v = cond cut (Some v) None
+
 -- in the unit of this value
 abbrev pub laid_step : Value → Node-F Laid → Laid
 laid_step v (Node-F.Scan table) = record { is_local = false; kinds = []; rows = 0; padding = padding_step (Node-F.Scan table); list = making (gives (record { len = 0; valid = []; kinds = []; planes = [] })) }
-laid_step v (Node-F.Filter child cond) = laid_part child child.kinds (padding_step (Node-F.Filter child.padding cond)) (λ l. filter_gates l cond)
-laid_step v (Node-F.Project child columns) = laid_part child (map (kind_at child.kinds) columns) (padding_step (Node-F.Project child.padding columns)) (λ l. gives (projected l columns))
+laid_step v (Node-F.Filter child cond) = laid_part child child.kinds (padding_step (Node-F.Filter child.padding cond)) (above_gates None (Node-F.Filter child cond))
+laid_step v (Node-F.Project child columns) = laid_part child (map (kind_at child.kinds) columns) (padding_step (Node-F.Project child.padding columns)) (above_gates None (Node-F.Project child columns))
 laid_step v (Node-F.Join left right on) = record {
   is_local = false;
   kinds = left.kinds ++ right.kinds;
@@ -97,11 +125,11 @@ laid_step v (Node-F.Join left right on) = record {
   padding = padding_step (Node-F.Join left.padding right.padding on);
   list = next left.list (λ l. next right.list (λ r. making (join_gates l r on)));
 }
-laid_step v (Node-F.Group child keys having) = laid_over child (counted_kinds child.kinds keys) (padding_step (Node-F.Group child.padding keys having)) (grouped_gates (all_pinned (map (slice_at child.padding.pinned) keys)) v keys having)
-laid_step v (Node-F.Count child) = laid_over child (kind.Int ∷ []) (padding_step (Node-F.Count child.padding)) count_gates
-laid_step v (Node-F.Distinct child) = laid_over child child.kinds (padding_step (Node-F.Distinct child.padding)) (once_gates (all_pinned child.padding.pinned) v)
-laid_step v (Node-F.Number child partition order) = laid_over child (child.kinds ++ kind.Int ∷ []) (padding_step (Node-F.Number child.padding partition order)) (λ l. number_gates l partition order)
-laid_step v (Node-F.Top child order limit) = laid_over child child.kinds (padding_step (Node-F.Top child.padding order limit)) (λ l. top_gates l order limit)
+laid_step v (Node-F.Group child keys having) = laid_over child (counted_kinds child.kinds keys) (padding_step (Node-F.Group child.padding keys having)) (above_gates (cut_by (is_cut (Node-F.Group child.padding keys having)) v) (Node-F.Group child keys having))
+laid_step v (Node-F.Count child) = laid_over child (kind.Int ∷ []) (padding_step (Node-F.Count child.padding)) (above_gates None (Node-F.Count child))
+laid_step v (Node-F.Distinct child) = laid_over child child.kinds (padding_step (Node-F.Distinct child.padding)) (above_gates (cut_by (is_cut (Node-F.Distinct child.padding)) v) (Node-F.Distinct child))
+laid_step v (Node-F.Number child partition order) = laid_over child (child.kinds ++ kind.Int ∷ []) (padding_step (Node-F.Number child.padding partition order)) (above_gates None (Node-F.Number child partition order))
+laid_step v (Node-F.Top child order limit) = laid_over child child.kinds (padding_step (Node-F.Top child.padding order limit)) (above_gates None (Node-F.Top child order limit))
 
 -- the list of a secure unit of this value, whose segment has this top and slice column
 abbrev pub unit_list : SchemaModel → Value → Node → ℕ → Laying PaddedList
@@ -159,14 +187,14 @@ rooted schema segments tree kinds rows above = record {
 
 abbrev pub root_step : SchemaModel → List (List Part) → Node-F Rooted → Rooted
 root_step schema segments (Node-F.Scan table) = rooted schema segments (node.Scan table) (table_kinds schema table) (table_of schema table).rows (making (gives (no_rows [])))
-root_step schema segments (Node-F.Filter child cond) = rooted schema segments (node.Filter child.tree cond) child.kinds child.rows (then_gates child.list (λ l. filter_gates l cond))
-root_step schema segments (Node-F.Project child columns) = rooted schema segments (node.Project child.tree columns) (map (kind_at child.kinds) columns) child.rows (then_gates child.list (λ l. gives (projected l columns)))
+root_step schema segments (Node-F.Filter child cond) = rooted schema segments (node.Filter child.tree cond) child.kinds child.rows (then_gates child.list (above_gates None (Node-F.Filter child cond)))
+root_step schema segments (Node-F.Project child columns) = rooted schema segments (node.Project child.tree columns) (map (kind_at child.kinds) columns) child.rows (then_gates child.list (above_gates None (Node-F.Project child columns)))
 root_step schema segments (Node-F.Join left right on) = rooted schema segments (node.Join left.tree right.tree on) (left.kinds ++ right.kinds) 0 (next left.list (λ l. next right.list (λ r. making (join_gates l r on))))
-root_step schema segments (Node-F.Group child keys having) = rooted schema segments (node.Group child.tree keys having) (counted_kinds child.kinds keys) 0 (then_gates child.list (λ l. group_gates l keys having))
-root_step schema segments (Node-F.Count child) = rooted schema segments (node.Count child.tree) (kind.Int ∷ []) 0 (then_gates child.list count_gates)
-root_step schema segments (Node-F.Distinct child) = rooted schema segments (node.Distinct child.tree) child.kinds 0 (then_gates child.list distinct_gates)
-root_step schema segments (Node-F.Number child partition order) = rooted schema segments (node.Number child.tree partition order) (child.kinds ++ kind.Int ∷ []) 0 (then_gates child.list (λ l. number_gates l partition order))
-root_step schema segments (Node-F.Top child order limit) = rooted schema segments (node.Top child.tree order limit) child.kinds 0 (then_gates child.list (λ l. top_gates l order limit))
+root_step schema segments (Node-F.Group child keys having) = rooted schema segments (node.Group child.tree keys having) (counted_kinds child.kinds keys) 0 (then_gates child.list (above_gates None (Node-F.Group child keys having)))
+root_step schema segments (Node-F.Count child) = rooted schema segments (node.Count child.tree) (kind.Int ∷ []) 0 (then_gates child.list (above_gates None (Node-F.Count child)))
+root_step schema segments (Node-F.Distinct child) = rooted schema segments (node.Distinct child.tree) child.kinds 0 (then_gates child.list (above_gates None (Node-F.Distinct child)))
+root_step schema segments (Node-F.Number child partition order) = rooted schema segments (node.Number child.tree partition order) (child.kinds ++ kind.Int ∷ []) 0 (then_gates child.list (above_gates None (Node-F.Number child partition order)))
+root_step schema segments (Node-F.Top child order limit) = rooted schema segments (node.Top child.tree order limit) child.kinds 0 (then_gates child.list (above_gates None (Node-F.Top child order limit)))
 
 -- the root's list, where these are the units of each segment
 abbrev pub root_list : SchemaModel → List (List Part) → Node → Laying PaddedList

@@ -6,9 +6,10 @@ use Rattle.pdn_base.specs.declared.cond.Op.TheVariants as op
 use Rattle.pdn_base.specs.declared.cond.Operand.{Operand}
 use Rattle.pdn_base.specs.declared.cond.Operand.TheVariants as operand
 use Rattle.pdn_base.specs.declared.cond.Cmp.{Cmp}
-use Rattle.pdn_tree.specs.declared.node.Node.{Node, fold-Node}
+use Rattle.pdn_tree.specs.declared.node.Node.{Node, fold-Node, out-Node, roll-Node}
 use Rattle.pdn_tree.specs.declared.node.Node.TheVariants as node
 use Rattle.pdn_tree.specs.declared.node.Node.TheOpen.{Node-F}
+use Rattle.pdn_tree.specs.declared.node.Node.TheFolds.{map-Node}
 use Rattle.pdn_level.specs.declared.staged.Leaf.{Leaf}
 
 abbrev pub constant : Value → Operand
@@ -49,3 +50,7 @@ scans v n = (narrowing v n).scans
 -- the tree in which each Scan that has a leaf, left to right, gives only the rows with the value in the leaf's column
 abbrev pub narrowed : Value → Node → List Leaf → Node
 narrowed v n leaves = (narrowing v n).tree leaves
+
+-- a node of the same kind, that reads this tree
+abbrev pub over : Node → Node → Node
+over n child = roll-Node (map-Node Node Node (λ m. child) (out-Node n))

@@ -3,9 +3,8 @@ use Rattle.std.specs.Prelude.{◌≡◌, ℕ, nat_eq, Bool, true, false, cond, L
 use Rattle.std.specs.List.{flat_map, range_with_len}
 use Rattle.pdn_base.specs.declared.site.Site.{Site}
 use Rattle.pdn_base.specs.Operators.{Rows}
-use Rattle.pdn_schema.specs.Models.{SchemaModel, table_of}
+use Rattle.pdn_schema.specs.Models.{SchemaModel}
 use Rattle.pdn_tree.specs.declared.node.Node.{Node, fold-Node}
-use Rattle.pdn_tree.specs.declared.node.Node.TheOpen.{Node-F}
 use Rattle.pdn_level.specs.Models.{SegmentModel}
 use Rattle.pdn_level.specs.Levels.{segments_of}
 use Rattle.pdn_site.specs.declared.unit.UnitKind.{UnitKind}
@@ -44,21 +43,6 @@ abbrev pub words_in : Site → SchemaModel → List Rows → Node → ℕ → Un
 words_in site schema tables top i unit = flat_map (slice_words site schema tables top) (slice_in i unit)
 
 -- ---- the root
-
--- for how many rows of a site a Local tree has room: those of its table
-abbrev pub room_step : SchemaModel → Node-F ℕ → ℕ
-room_step schema (Node-F.Scan table) = (table_of schema table).rows
-room_step schema (Node-F.Filter child condition) = child
-room_step schema (Node-F.Project child columns) = child
-room_step schema (Node-F.Join left right on) = 0
-room_step schema (Node-F.Group child keys having) = 0
-room_step schema (Node-F.Count child) = 0
-room_step schema (Node-F.Distinct child) = 0
-room_step schema (Node-F.Number child partition order) = 0
-room_step schema (Node-F.Top child order limit) = 0
-
-abbrev pub room_of : SchemaModel → Node → ℕ
-room_of schema = fold-Node ℕ (room_step schema)
 
 -- a site's words of a tree in the root, where segment i comes next
 abbrev pub tree_words : Site → SchemaModel → List Rows → List (List Slice) → Node → ℕ → OwnRoot

@@ -15,7 +15,7 @@ use crate::entering::entered_words;
 use crate::holding::tables_held;
 use crate::narrowing::narrowed;
 use crate::numbers::numbers_held;
-use crate::root::tree_words;
+use crate::root::{OwnSide, tree_words};
 use crate::segments::node_at;
 use crate::unit::value_of;
 use crate::{Unit, UnitKind, Units};
@@ -231,16 +231,14 @@ impl SiteEngine {
     fn root_words(&self, alloc: Global, units: &Units) -> Result<Vec<Word>, Memory>
         ensures { IfOk result (λ words. words.items ≡ root_inputs self.now units.now) }
     {
-        let own = tree_words(
-            alloc,
-            self.site,
-            &self.schema,
-            &self.tables,
-            &self.staged,
+        let side = OwnSide {
+            site: self.site,
+            schema: &self.schema,
+            tables: &self.tables,
+            staged: &self.staged,
             units,
-            &self.root,
-            0,
-        )?;
+        };
+        let own = tree_words(alloc, &side, &self.root, 0)?;
         Ok(own.words)
     }
 

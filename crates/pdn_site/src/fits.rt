@@ -179,3 +179,13 @@ pub fn pairs_fit(left: u32, right: u32) -> Result<(), Unfit>
     }
     Ok(())
 }
+
+/// Whether both sites' rows of a leaf, so many from each, are a list.
+pub fn leaf_fits(rows: u32) -> Result<(), Unfit>
+    ensures { IfOk result (λ _. 2 * rows ≤ 4096) }
+{
+    if 2048 < rows {
+        return Err(Unfit);
+    }
+    Ok(())
+}

@@ -1,9 +1,11 @@
 //! The lists of a unit as gates of a builder.
-ghost use Rattle.std.specs.Prelude.{◌≡◌, ◌+◌, ◌*◌, ◌<◌, ◌≤◌, ◌^◌, ℕ, length, IfOk, IfSome};
+ghost use Rattle.std.specs.Prelude.{◌≡◌, ◌+◌, ◌*◌, ◌<◌, ◌≤◌, ◌^◌, ℕ, length, IfErr, IfOk, IfSome};
 ghost use Rattle.std.specs.List.{range_with_len};
 ghost use Rattle.pdn_circuit.specs.declared.gate.Gate.TheVariants.{Given, Input};
+ghost use Rattle.pdn_circuit.specs.declared.tally.BuildErr.TheVariants.{Memory};
 ghost use Rattle.pdn_circuit.specs.Gates.{given_count, input_count};
 ghost use Rattle.pdn_circuit.specs.Building.{Tries};
+ghost use Rattle.pdn_tree.specs.Shapes.{kinds};
 ghost use Rattle.pdn_obl_rows.specs.Lists.{widths, words_for};
 ghost use Rattle.pdn_obl_rows.specs.Encoding.{list_from, planes_from};
 ghost use Rattle.pdn_obl_rows.specs.Operators.{GivesList, IsThere};
@@ -11,9 +13,13 @@ ghost use Rattle.pdn_site.specs.Laying.{given_list, input_list, list_words};
 ghost use Rattle.pdn_site.specs.Built.{IsListOf, Lays, words_gates};
 ghost use Rattle.pdn_site.specs.Circuits.{leaf_list};
 
+use crate::entering::kinds_of;
+use crate::fits::leaf_fits;
 use pdn_base::{Kind, Site};
 use pdn_circuit::{BuildErr, Builder};
 use pdn_obl_rows::{Padded, Plane, append, width, words_for};
+use pdn_schema::Schema;
+use pdn_tree::Node;
 use std::alloc::{AllocError, Global};
 
 /// The next `count` words of a site; the gate of the first.
@@ -179,4 +185,34 @@ pub fn leaf_list(
     let other = input_list(alloc, b, Site::B, kinds, len)?;
     let lists = vec![in alloc; own, other]?;
     append(alloc, b, lists.as_slice())
+}
+
+/// The kinds of a tree's columns.
+pub fn kinds_at(alloc: Global, schema: &Schema, node: &Node) -> Result<Vec<Kind>, BuildErr>
+    ensures kinds { IfOk result (λ out. out.items ≡ kinds schema.now node.now) }
+    ensures memory { IfErr result (λ err. err ≡ Memory) }
+{
+    match kinds_of(alloc, schema, node) {
+        Ok(kinds) => Ok(kinds),
+        // a growth was refused
+        Err(_) => Err(BuildErr::Memory),
+    }
+}
+
+/// The leaf of a Local tree, of which each site has so many rows.
+#[tactic(auto, using(crate::proofs::BuiltLaws::not_laid))]
+pub fn local_leaf(
+    alloc: Global,
+    b: &mut Builder,
+    schema: &Schema,
+    node: &Node,
+    rows: u32,
+) -> Result<Padded, BuildErr>
+    ensures made { (s : ℕ) → Lays b.old b.new s s
+        (leaf_list (kinds schema.now node.now) rows) result }
+    ensures there { GivesList b.new result }
+{
+    leaf_fits(rows)?;
+    let kinds = kinds_at(alloc, schema, node)?;
+    leaf_list(alloc, b, kinds.as_slice(), rows)
 }

@@ -1,6 +1,7 @@
 //! Trees whose leaves read only the rows that have a value in a column.
-ghost use Rattle.std.specs.Prelude.{◌≡◌, IfOk, drop};
-ghost use Rattle.pdn_site.specs.Narrowing.{constant, has_value, narrowed_scan, scans, narrowed};
+ghost use Rattle.std.specs.Prelude.{◌≡◌, IfOk, drop, length};
+ghost use Rattle.pdn_tree.specs.Walks.{below};
+ghost use Rattle.pdn_site.specs.Narrowing.{constant, has_value, narrowed_scan, over, scans, narrowed};
 
 use pdn_base::{Clause, Cmp, Cond, Memory, Op, Operand, Term, Value};
 use pdn_level::Leaf;
@@ -85,6 +86,28 @@ pub fn after(leaves: &[Leaf], count: usize) -> &[Leaf]
     &leaves[first..]
 }
 
+/// An operator over one tree, over another one.
+fn made_over(alloc: Global, node: &Node, child: Node) -> Result<Node, Memory>
+    requires { length (below node.now) ≡ 1 }
+    ensures { IfOk result (λ tree. tree ≡ over node.now child) }
+{
+    match node {
+        Node::Filter { cond, .. } => make_filter(alloc, child, cond),
+        Node::Project { columns, .. } => make_project(alloc, child, columns.as_slice()),
+        Node::Group { keys, having, .. } => make_group(alloc, child, keys.as_slice(), *having),
+        Node::Count { .. } => make_count(alloc, child),
+        Node::Distinct { .. } => make_distinct(alloc, child),
+        Node::Number {
+            partition,
+            order,
+            ..
+        } => make_number(alloc, child, partition.as_slice(), order.as_slice()),
+        Node::Top { order, limit, .. } => make_top(alloc, child, order.as_slice(), *limit),
+        // these read no tree, or two
+        Node::Scan { .. } | Node::Join { .. } => unreachable!(),
+    }
+}
+
 /// The tree in which each Scan that has a leaf, left to right, gives only the rows with the value in the leaf's column. With
 /// no leaves it is an equal tree.
 pub fn narrowed(alloc: Global, node: &Node, leaves: &[Leaf], value: &Value) -> Result<Node, Memory>
@@ -92,47 +115,21 @@ pub fn narrowed(alloc: Global, node: &Node, leaves: &[Leaf], value: &Value) -> R
 {
     match node {
         Node::Scan { table } => narrowed_scan(alloc, *table, leaves, value),
-        Node::Filter { child, cond } => {
-            let child = narrowed(alloc, child.get(), leaves, value)?;
-            make_filter(alloc, child, cond)
-        }
-        Node::Project { child, columns } => {
-            let child = narrowed(alloc, child.get(), leaves, value)?;
-            make_project(alloc, child, columns.as_slice())
-        }
         Node::Join { left, right, on } => {
             let l = narrowed(alloc, left.get(), leaves, value)?;
             let rest = after(leaves, scans(left.get(), value)?);
             let r = narrowed(alloc, right.get(), rest, value)?;
             make_join(alloc, l, r, on)
         }
-        Node::Group {
-            child,
-            keys,
-            having,
-        } => {
+        Node::Filter { child, .. }
+        | Node::Project { child, .. }
+        | Node::Group { child, .. }
+        | Node::Count { child }
+        | Node::Distinct { child }
+        | Node::Number { child, .. }
+        | Node::Top { child, .. } => {
             let child = narrowed(alloc, child.get(), leaves, value)?;
-            make_group(alloc, child, keys.as_slice(), *having)
-        }
-        Node::Count { child } => { make_count(alloc, narrowed(alloc, child.get(), leaves, value)?) }
-        Node::Distinct { child } => {
-            make_distinct(alloc, narrowed(alloc, child.get(), leaves, value)?)
-        }
-        Node::Number {
-            child,
-            partition,
-            order,
-        } => {
-            let child = narrowed(alloc, child.get(), leaves, value)?;
-            make_number(alloc, child, partition.as_slice(), order.as_slice())
-        }
-        Node::Top {
-            child,
-            order,
-            limit,
-        } => {
-            let child = narrowed(alloc, child.get(), leaves, value)?;
-            make_top(alloc, child, order.as_slice(), *limit)
+            made_over(alloc, node, child)
         }
     }
 }

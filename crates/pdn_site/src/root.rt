@@ -8,19 +8,31 @@ ghost use Rattle.pdn_tree.specs.Meaning.{mean, table_of};
 ghost use Rattle.pdn_tree.specs.Shapes.{kinds};
 ghost use Rattle.pdn_site.specs.Engines.{no_segment};
 ghost use Rattle.pdn_site.specs.SiteRows.{entered, is_of, plain_rows, slice_words};
-ghost use Rattle.pdn_site.specs.RootWords.{is_segment, slices_in, words_in, room_of, StandsFrom, tree_words};
+ghost use Rattle.pdn_site.specs.RootLengths.{leaf_rows};
+ghost use Rattle.pdn_site.specs.RootWords.{is_segment, slices_in, words_in, StandsFrom, tree_words};
 
 use crate::entering::{entered, kinds_of};
 use crate::narrowing::narrowed;
+use crate::root_lengths::leaf_rows;
 use crate::unit::value_of;
 use crate::{Unit, UnitKind, Units};
 use pdn_base::{Memory, Site, Tables, Value, Word};
 use pdn_level::{Leaf, Level, Segment, Staged, level_of};
 use pdn_plain::run_local;
 use pdn_schema::Schema;
-use pdn_tree::Node;
+use pdn_tree::{Below, Node};
 use std::alloc::Global;
 use std::marker::Model;
+
+/// A site's side of a query: its own tables, and what is public.
+#[derive(Drop)]
+pub struct OwnSide<'a> {
+    pub site: Site,
+    pub schema: &'a Schema,
+    pub tables: &'a Tables,
+    pub staged: &'a Staged,
+    pub units: &'a Units,
+}
 
 /// A site's words of a tree in the root, and which segment comes next after it.
 #[derive(Debug, Drop)]
@@ -37,42 +49,6 @@ impl Model for TreeWords {
     ghost view = { λ w. record { words = w.words.items; segments = w.segments } };
 }
 
-/// For how many rows of a site a Local tree has room.
-fn room_of(schema: &Schema, node: &Node) -> u32
-    ensures { result ≡ room_of schema.now node.now }
-{
-    match node {
-        Node::Scan { table } => match schema.tables.get(*table as usize) {
-            None => 0,
-            Some(t) => t.rows,
-        },
-        Node::Filter { child, cond: _ } => room_of(schema, child.get()),
-        Node::Project { child, columns: _ } => room_of(schema, child.get()),
-        Node::Join {
-            left: _,
-            right: _,
-            on: _,
-        } => 0,
-        Node::Group {
-            child: _,
-            keys: _,
-            having: _,
-        } => 0,
-        Node::Count { child: _ } => 0,
-        Node::Distinct { child: _ } => 0,
-        Node::Number {
-            child: _,
-            partition: _,
-            order: _,
-        } => 0,
-        Node::Top {
-            child: _,
-            order: _,
-            limit: _,
-        } => 0,
-    }
-}
-
 /// A leaf of the root: the site's rows that a Local tree means.
 fn leaf_words(
     alloc: Global,
@@ -81,32 +57,32 @@ fn leaf_words(
     node: &Node,
 ) -> Result<Vec<Word>, Memory>
     ensures { IfOk result (λ words. words.items
-        ≡ entered (mean (table_of tables.now) node.now) (kinds schema.now node.now) (room_of
+        ≡ entered (mean (table_of tables.now) node.now) (kinds schema.now node.now) (leaf_rows
         schema.now node.now)) }
 {
     let rows = run_local(alloc, schema, node, tables)?;
     let kinds = kinds_of(alloc, schema, node)?;
-    entered(alloc, rows, kinds.as_slice(), room_of(schema, node))
+    entered(alloc, rows, kinds.as_slice(), leaf_rows(schema, node))
 }
 
 /// What a plain unit of the site puts in: its rows, as they enter.
 fn plain_words(
     alloc: Global,
-    schema: &Schema,
-    tables: &Tables,
+    side: &OwnSide<'_>,
     top: &Node,
     leaves: &[Leaf],
     value: &Value,
     len: u32,
 ) -> Result<Vec<Word>, Memory>
-    requires { leaves.now ≡ leaves_of schema.now top.now (slice_column schema.now top.now) }
+    requires { leaves.now ≡ leaves_of side.now.schema.now top.now (slice_column side.now.schema.now
+        top.now) }
     ensures { IfOk result (λ words. words.items
-        ≡ entered (plain_rows schema.now tables.now value.now top.now) (kinds schema.now
-        top.now) len) }
+        ≡ entered (plain_rows side.now.schema.now side.now.tables.now value.now top.now) (kinds
+        side.now.schema.now top.now) len) }
 {
     let tree = narrowed(alloc, top, leaves, value)?;
-    let rows = run_local(alloc, schema, &tree, tables)?;
-    let kinds = kinds_of(alloc, schema, top)?;
+    let rows = run_local(alloc, side.schema, &tree, side.tables)?;
+    let kinds = kinds_of(alloc, side.schema, top)?;
     entered(alloc, rows, kinds.as_slice(), len)
 }
 
@@ -137,45 +113,46 @@ fn is_segment(segment: usize, of: Option<u32>) -> bool
 #[tactic(auto, using(crate::proofs::UnitWordLaws::words_mine, crate::proofs::UnitWordLaws::words_elsewhere, crate::proofs::UnitWordLaws::words_others))]
 fn unit_words(
     alloc: Global,
-    site: Site,
-    schema: &Schema,
-    tables: &Tables,
+    side: &OwnSide<'_>,
     top: &Node,
     leaves: &[Leaf],
     segment: usize,
     unit: &Unit,
 ) -> Result<Vec<Word>, Memory>
-    requires { leaves.now ≡ leaves_of schema.now top.now (slice_column schema.now top.now) }
+    requires { leaves.now ≡ leaves_of side.now.schema.now top.now (slice_column side.now.schema.now
+        top.now) }
     ensures { IfOk result (λ words. words.items
-        ≡ words_in site schema.now tables.now top.now segment unit.now) }
+        ≡ words_in side.now.site side.now.schema.now side.now.tables.now top.now segment
+        unit.now) }
 {
-    if is_segment(segment, unit.segment) && is_of(site, unit.kind) {
+    if is_segment(segment, unit.segment) && is_of(side.site, unit.kind) {
         let value = value_of(unit);
-        plain_words(alloc, schema, tables, top, leaves, &value, unit.len)
+        plain_words(alloc, side, top, leaves, &value, unit.len)
     } else {
         Ok(Vec::new(alloc))
     }
 }
 
-/// A segment of the root: for each of its units in order, the site's rows where the unit is plain and the site's own.
+/// A segment of the root: for each of its units in order, the site's rows where the unit is plain
+/// and the site's own.
 #[tactic(auto, using(crate::proofs::UnitWordLaws::words_next))]
 fn segment_words(
     alloc: Global,
-    site: Site,
-    schema: &Schema,
-    tables: &Tables,
-    leaves: &[Leaf],
-    units: &Units,
+    side: &OwnSide<'_>,
     top: &Node,
+    leaves: &[Leaf],
     segment: usize,
 ) -> Result<Vec<Word>, Memory>
-    requires { leaves.now ≡ leaves_of schema.now top.now (slice_column schema.now top.now) }
+    requires { leaves.now ≡ leaves_of side.now.schema.now top.now (slice_column side.now.schema.now
+        top.now) }
     ensures { IfOk result (λ words. words.items
-        ≡ flat_map (words_in site schema.now tables.now top.now segment) units.now) }
+        ≡ flat_map (words_in side.now.site side.now.schema.now side.now.tables.now top.now segment)
+        side.now.units.now) }
 {
+    let units = side.units;
     let mut words = Vec::new(alloc);
     for unit in &units.units {
-        let mut more = unit_words(alloc, site, schema, tables, top, leaves, segment, unit)?;
+        let mut more = unit_words(alloc, side, top, leaves, segment, unit)?;
         words.append(&mut more)?;
     }
     Ok(words)
@@ -231,155 +208,46 @@ fn both(left: TreeWords, right: TreeWords) -> Result<TreeWords, Memory>
     })
 }
 
-/// A site's words of a tree in the root, where number `segment` is the first of its segments: a leaf's rows, a segment's plain
-/// units of the site, and of any other node what it reads, left to right.
+/// A site's words of a tree in the root, where number `segment` is the first of its segments: a
+/// leaf's rows, a segment's plain units of the site, and of any other node what it reads, left to
+/// right.
 pub fn tree_words(
     alloc: Global,
-    site: Site,
-    schema: &Schema,
-    tables: &Tables,
-    staged: &Staged,
-    units: &Units,
+    side: &OwnSide<'_>,
     node: &Node,
     segment: usize,
 ) -> Result<TreeWords, Memory>
-    requires { StandsFrom schema.now staged.now node.now segment }
-    ensures { IfOk result (λ own. own ≡ tree_words site schema.now tables.now
-        (slices_in (length staged.now) units.now) node.now segment) }
+    requires { StandsFrom side.now.schema.now side.now.staged.now node.now segment }
+    ensures { IfOk result (λ own. own
+        ≡ tree_words side.now.site side.now.schema.now side.now.tables.now
+        (slices_in (length side.now.staged.now) side.now.units.now) node.now segment) }
 {
-    match level_of(alloc, node, schema)? {
+    match level_of(alloc, node, side.schema)? {
         Level::Local => {
             return Ok(TreeWords {
-                words: leaf_words(alloc, schema, tables, node)?,
+                words: leaf_words(alloc, side.schema, side.tables, node)?,
                 segments: segment,
             })
         }
         Level::Sliced => {
-            let leaves = leaves_at(schema, staged, node, segment);
+            let leaves = leaves_at(side.schema, side.staged, node, segment);
             return Ok(TreeWords {
-                words: segment_words(alloc, site, schema, tables, leaves, units, node, segment)?,
-                segments: next_number(staged, segment),
+                words: segment_words(alloc, side, node, leaves, segment)?,
+                segments: next_number(side.staged, segment),
             });
         }
         Level::Secure => {}
     }
-    match node {
-        Node::Scan { table: _ } => Ok(TreeWords {
+    match node.below() {
+        Below::Nothing => Ok(TreeWords {
             words: Vec::new(alloc),
             segments: segment,
         }),
-        Node::Filter { child, cond: _ } => {
-            tree_words(
-                alloc,
-                site,
-                schema,
-                tables,
-                staged,
-                units,
-                child.get(),
-                segment,
-            )
-        }
-        Node::Project { child, columns: _ } => {
-            tree_words(
-                alloc,
-                site,
-                schema,
-                tables,
-                staged,
-                units,
-                child.get(),
-                segment,
-            )
-        }
-        Node::Join { left, right, on: _ } => {
-            let l = tree_words(
-                alloc,
-                site,
-                schema,
-                tables,
-                staged,
-                units,
-                left.get(),
-                segment,
-            )?;
-            let r = tree_words(
-                alloc,
-                site,
-                schema,
-                tables,
-                staged,
-                units,
-                right.get(),
-                next_of(&l),
-            )?;
+        Below::One(child) => tree_words(alloc, side, child, segment),
+        Below::Two(left, right) => {
+            let l = tree_words(alloc, side, left, segment)?;
+            let r = tree_words(alloc, side, right, next_of(&l))?;
             both(l, r)
         }
-        Node::Group {
-            child,
-            keys: _,
-            having: _,
-        } => tree_words(
-            alloc,
-            site,
-            schema,
-            tables,
-            staged,
-            units,
-            child.get(),
-            segment,
-        ),
-        Node::Count { child } => {
-            tree_words(
-                alloc,
-                site,
-                schema,
-                tables,
-                staged,
-                units,
-                child.get(),
-                segment,
-            )
-        }
-        Node::Distinct { child } => {
-            tree_words(
-                alloc,
-                site,
-                schema,
-                tables,
-                staged,
-                units,
-                child.get(),
-                segment,
-            )
-        }
-        Node::Number {
-            child,
-            partition: _,
-            order: _,
-        } => tree_words(
-            alloc,
-            site,
-            schema,
-            tables,
-            staged,
-            units,
-            child.get(),
-            segment,
-        ),
-        Node::Top {
-            child,
-            order: _,
-            limit: _,
-        } => tree_words(
-            alloc,
-            site,
-            schema,
-            tables,
-            staged,
-            units,
-            child.get(),
-            segment,
-        ),
     }
 }

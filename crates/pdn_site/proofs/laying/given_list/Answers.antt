@@ -1,4 +1,4 @@
-use Rattle.std.proofs.Common.{sym, ap, ap₂, ◌∙◌, ◌+◌, ◌*◌, ◌≡◌, ℕ, subst, length, arith}
+use Rattle.std.proofs.Common.{sym, ap, ◌∙◌, ◌+◌, ◌*◌, ◌≡◌, subst, length, arith}
 use Rattle.pdn_circuit.specs.declared.gate.Gate.TheVariants.{Given}
 use Rattle.pdn_circuit.specs.Gates.{given_count}
 use Rattle.pdn_circuit.specs.Building.{Stops, Makes}

@@ -1,9 +1,8 @@
-use Rattle.std.proofs.Common.{sym, ap, ap₂, ◌∙◌, ◌+◌, ◌*◌, ◌≡◌, ◌∷◌, [], List, ℕ, subst, refl, length, arith}
+use Rattle.std.proofs.Common.{sym, ap, ◌∙◌, ◌∷◌, [], List, ℕ, subst, arith}
 use Rattle.pdn_base.specs.declared.marks.Kind.{Kind}
 use Rattle.pdn_base.specs.declared.site.Site.TheVariants.{A, B}
-use Rattle.pdn_circuit.specs.Building.{Makes, Tries}
 use Rattle.pdn_obl_rows.specs.Lists.{PaddedList}
-use Rattle.pdn_obl_rows.specs.Operators.{append_gates, AllOf, AllThere, kinds_of, length_of}
+use Rattle.pdn_obl_rows.specs.Operators.{append_gates, AllOf, kinds_of, length_of}
 use Rattle.pdn_obl_rows.proofs.ThereLaws.{there_later}
 use Rattle.pdn_obl_rank.proofs.Looping.{makes_rises}
 use Rattle.pdn_site.specs.Laying.{making, next, input_list}

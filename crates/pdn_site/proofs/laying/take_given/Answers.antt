@@ -1,4 +1,4 @@
-use Rattle.std.proofs.Common.{◌≡◌, sym, ap, ◌∙◌, subst, length, arith, ℕ}
+use Rattle.std.proofs.Common.{subst, length, ℕ}
 use Rattle.pdn_circuit.specs.declared.gate.Gate.TheVariants.{Given}
 use Rattle.pdn_circuit.specs.Gates.{given_count}
 use Rattle.pdn_circuit.specs.Blocks.{one}
