@@ -1,10 +1,10 @@
 #!/usr/bin/env python3
 """What bench/gen.sh measures: for each size of a stated network and each number of workers the time and the memory of `pdn gen`, its And
-words, and how the processor time of one worker divides.
+words a second, and how the processor time of one worker divides.
 
 And words are counted in the views of site A, which `pdn run .. show a` prints over the same rows, given to the sites as batches.
 """
-import os, re, resource, shutil, statistics, subprocess, sys, tempfile, time
+import os, re, shutil, statistics, subprocess, sys, tempfile, time
 
 SEED = 7
 SIZES = [6, 12, 25, 50, 100]
@@ -19,16 +19,16 @@ column code code protected
 column day int private
 end
 """
-AGAIN = """WITH d AS (SELECT pid, day, ROW_NUMBER() OVER (PARTITION BY pid ORDER BY day) AS r FROM diag WHERE code = 'cdiff')
+QUERIES = """WITH d AS (SELECT pid, day, ROW_NUMBER() OVER (PARTITION BY pid ORDER BY day) AS r FROM diag WHERE code = 'cdiff')
 SELECT DISTINCT a.pid FROM d a JOIN d b ON a.pid = b.pid AND b.r = a.r + 1
 WHERE b.day >= a.day + 15 AND b.day <= a.day + 56 ORDER BY pid;
+SELECT code, COUNT(*) AS n FROM diag GROUP BY code HAVING COUNT(*) >= 3 ORDER BY n DESC LIMIT 2;
+SELECT COUNT(*) FROM diag WHERE day >= 30;
 """
-COMMON = "SELECT code, COUNT(*) AS n FROM diag GROUP BY code HAVING COUNT(*) >= 3 ORDER BY n DESC LIMIT 2;\n"
-LATE = "SELECT COUNT(*) FROM diag WHERE day >= 30;\n"
 
 
 def rows(patients):
-    """The rows of both sites, by the formats' sentence."""
+    """The rows of both sites, by docs/FORMATS.md."""
     a, b = [], []
     for p in range(1, patients + 1):
         q, g = (7 * p + 13 * SEED) % 11, (5 * p + SEED) % 60
@@ -44,47 +44,58 @@ def put(folder, name, text):
         out.write(text)
 
 
-def csv(of_site):
-    return "pid,code,day\n" + "".join(f"{p},{code},{day}\n" for p, code, day in of_site)
-
-
-def given(folder, program, *words):
-    ran = subprocess.run([program, *words], cwd=folder, stdout=subprocess.PIPE, text=True)
-    if ran.returncode != 0:
-        raise SystemExit(f"{' '.join(words)}: status {ran.returncode} {ran.stdout}")
-    return ran.stdout
-
-
-def and_words(program, patients):
-    """And words of each query's secure units and root, summed, and the gates' text that gen itself must print."""
-    folder = new_folder()
-    put(folder, "net.schema", SCHEMA)
-    put(folder, "q.sql", AGAIN + COMMON + LATE)
-    for site, of_site in zip("ab", rows(patients)):
-        put(folder, site + ".csv", csv(of_site))
-        given(folder, program, "load", site, "diag", "0", site + ".csv")
-    text = given(folder, program, "run", "q.sql", "1", "show", "a")
-    shutil.rmtree(folder)
-    return sum(int(n) for n in re.findall(r"^unit .* ands (\d+) masks \d+$", text, re.MULTILINE))
-
-
 def new_folder():
     folder = tempfile.mkdtemp()
     put(folder, "tape.key", "ab" * 32)
     return folder
 
 
-def run_once(program, patients, workers):
-    """Seconds by the wall, seconds of the processors, and the peak memory in MB, of one call in a process of its own."""
+def lines_of(folder, *words):
+    """The lines that a command prints, one after the other: those of views can be many."""
+    with subprocess.Popen(words, cwd=folder, stdout=subprocess.PIPE, text=True) as running:
+        yield from running.stdout
+    if running.returncode != 0:
+        raise SystemExit(f"{' '.join(words)}: status {running.returncode}")
+
+
+def in_numbers(line):
+    """A line `query <i> .. rows <k> ..` in short: i and k."""
+    found = re.match(r"query (\d+) (?:ticket \d+ )?rows (\d+)", line)
+    return found and found.groups()
+
+
+def counted(program, patients):
+    """And words of the three queries, over all their secure units and roots."""
     folder = new_folder()
-    start = time.time()
+    put(folder, "net.schema", SCHEMA)
+    put(folder, "q.sql", QUERIES)
+    for site, of_site in zip("ab", rows(patients)):
+        put(folder, site + ".csv", "pid,code,day\n" + "".join(f"{p},{code},{day}\n" for p, code, day in of_site))
+        list(lines_of(folder, program, "load", site, "diag", "0", site + ".csv"))
+    ands, answers = 0, []
+    for line in lines_of(folder, program, "run", "q.sql", "1", "show", "a"):
+        unit = re.match(r"unit \d+ .* ands (\d+) masks \d+$", line)
+        if unit:
+            ands += int(unit[1])
+        answers.append(in_numbers(line))
+    in_short = [in_numbers(line) for line in lines_of(folder, program, "gen", str(SEED), str(patients), "1")]
+    shutil.rmtree(folder)
+    if list(filter(None, answers)) != list(filter(None, in_short)):
+        raise SystemExit(f"{patients} patients: run and gen answer with other rows")
+    return ands
+
+
+def run_once(program, patients, workers):
+    """Seconds by the clock, seconds of the processors, and the peak memory in MB, of one call in a process of its own."""
+    folder = new_folder()
+    start = time.monotonic()
     pid = os.fork()
     if pid == 0:
         os.chdir(folder)
         os.dup2(os.open(os.devnull, os.O_WRONLY), 1)
         os.execv(program, [program, "gen", str(SEED), str(patients), str(workers)])
     _, status, used = os.wait4(pid, 0)
-    took = time.time() - start
+    took = time.monotonic() - start
     shutil.rmtree(folder)
     if status != 0:
         raise SystemExit(f"gen {SEED} {patients} {workers}: status {os.waitstatus_to_exitcode(status)}")
@@ -92,18 +103,20 @@ def run_once(program, patients, workers):
 
 
 def measured(program, patients, workers):
+    """The medians of some calls."""
     turns = [run_once(program, patients, workers) for _ in range(TURNS)]
     return [statistics.median(of) for of in zip(*turns)]
 
 
-def dealing_and_halves(bench):
-    """Seconds that one And word takes in dealing and in both halves, in a circuit of some hundred thousand And gates."""
+def seconds_an_and(bench):
+    """Processor seconds of one And word in dealing alone, in dealing and splitting, and in both halves, over a circuit of some hundred
+    thousand And gates; none where pdn_bench isn't built."""
     if not os.access(bench, os.X_OK):
         return None
-    table = subprocess.run([bench, "wide", "128", "5"], stdout=subprocess.PIPE, text=True).stdout.splitlines()
-    named = [dict(zip(table[1].split(), map(int, row.split()))) for row in table[2:]]
-    typical = {name: statistics.median(row[name] for row in named) / 1e12 for name in named[0]}
-    return typical["deal"] + typical["split"], typical["order"] + typical["new"] + typical["run"], typical["deal"]
+    table = subprocess.run([bench, "wide", "128", "5"], stdout=subprocess.PIPE, text=True, check=True).stdout.splitlines()
+    turns = [dict(zip(table[1].split(), map(int, row.split()))) for row in table[2:]]
+    each = {name: statistics.median(turn[name] for turn in turns) / 1e12 for name in turns[0]}
+    return each["deal"], each["deal"] + each["split"], each["order"] + each["new"] + each["run"]
 
 
 def in_plain(patients):
@@ -113,27 +126,27 @@ def in_plain(patients):
     a, b = rows(patients)
     script = "CREATE TABLE diag(pid INT, code TEXT, day INT);\n"
     script += "".join(f"INSERT INTO diag VALUES({p},'{code}',{day});\n" for p, code, day in a + b)
-    script += ".timer on\n" + AGAIN + COMMON + LATE
+    script += ".timer on\n" + QUERIES
     text = subprocess.run(["sqlite3", ":memory:"], input=script, stdout=subprocess.PIPE, text=True).stdout
     return sum(float(n) for n in re.findall(r"Run Time: real ([0-9.]+)", text))
 
 
 def main():
     program, bench = os.path.abspath(sys.argv[1]), os.path.abspath(sys.argv[2])
-    each = dealing_and_halves(bench)
+    each = seconds_an_and(bench)
     if each:
-        print(f"dealer {1 / each[2]:.0f} And words a second")
+        print(f"dealer {1 / each[0]:.0f} And words a second")
     print("patients workers and_words seconds and_words_a_second mb processor_seconds")
     for patients in SIZES:
-        ands = and_words(program, patients)
+        ands = counted(program, patients)
+        alone = None
         for workers in WORKERS:
             took, used, mb = measured(program, patients, workers)
             print(f"{patients} {workers} {ands} {took:.3f} {ands / took:.0f} {mb:.0f} {used:.3f}", flush=True)
-            if workers == 1:
-                alone = used
+            alone = alone or used
         if each:
-            deal, halves = ands * each[0] / alone, ands * each[1] / alone
-            print(f"{patients} patients, shares of one worker's time: dealing {deal:.0%}, halves {halves:.0%}, the rest {1 - deal - halves:.0%}")
+            deal, halves = ands * each[1] / alone, ands * each[2] / alone
+            print(f"{patients} patients, of one worker's time: dealing {deal:.0%}, halves {halves:.0%}, the rest {1 - deal - halves:.0%}")
         plain = in_plain(patients)
         if plain is not None:
             print(f"{patients} patients in plain, by sqlite3: {plain:.4f} seconds")

@@ -131,7 +131,8 @@ generate_task words = None
 abbrev pub task_of : List (List ℕ) → Option Task
 task_of [] = None
 task_of (verb ∷ words) = if bytes_eq verb (codes "run") then run_task words else if bytes_eq verb (codes "load") then load_task words
-    else if bytes_eq verb (codes "check") then check_task words else if bytes_eq verb (codes "twin") then twin_task words else if bytes_eq verb (codes "gen") then generate_task words else None
+    else if bytes_eq verb (codes "check") then check_task words else if bytes_eq verb (codes "twin") then twin_task words
+    else if bytes_eq verb (codes "gen") then generate_task words else None
 
 abbrev pub same_site : Site → Site → Bool
 same_site A A = true
