@@ -1,5 +1,5 @@
 -- A query that is made ready over the own tables and two others with the same public values is in two worlds.
-use Rattle.std.proofs.Common.{◌≡◌, List, refl, sym, ◌∙◌, subst, ap}
+use Rattle.std.proofs.Common.{◌≡◌, List, refl, sym, ◌∙◌, subst}
 use Rattle.pdn_base.specs.declared.site.Site.{Site}
 use Rattle.pdn_base.specs.declared.site.Site.TheVariants.{A, B}
 use Rattle.pdn_base.specs.Operators.{Rows}

@@ -89,7 +89,6 @@ pub struct TwoWorlds {
 }
 
 /// The query in two worlds, where no public column has other values in the one than in the other.
-#[tactic(auto, using(crate::proofs::Agreeing::are_worlds))]
 pub fn worlds_of(
     alloc: Global,
     site: Site,
