@@ -9,7 +9,7 @@ use Rattle.pdn_twin.specs.Twins.{TwinWords}
 use Rattle.pdn_query.specs.Questions.{Told, OnlyAt}
 use Rattle.pdn_query.specs.Walk.{End, Along}
 use Rattle.pdn_query.specs.World.{WorldModel}
-use Rattle.pdn_commands.specs.Commands.{Task, Run, Twin, Load, Generate, task_of, task_script, run_task, loads, runs}
+use Rattle.pdn_commands.specs.Commands.{Task, Run, Twin, Load, Generate, task_of, task_script, run_task, generate_task, loads, runs}
 
 -- the script is that of the task that the words ask for
 pub asked : {a b : WorldModel} {end : End} (views : TwinWords → TwinWords) (tape : Tape) (words : List (List ℕ)) (task : Option Task) → task ≡ task_of words → Along a b (task_script views tape task) end →
@@ -63,3 +63,18 @@ module _ {X : Type 0} (f : X → List ℕ) where
   run_of_more (a ∷ b ∷ c ∷ []) m = absurd (omega (arith, m))
   run_of_more (a ∷ b ∷ c ∷ d ∷ []) m = absurd (omega (arith, m))
   run_of_more (a ∷ b ∷ c ∷ d ∷ e ∷ words) m = refl
+
+-- ---- a `gen` has three words
+module _ {X : Type 0} (f : X → List ℕ) where
+  pub generate_of_less : (words : List X) → length words < 3 → None ≡ generate_task (map f words)
+  generate_of_less [] l = refl
+  generate_of_less (a ∷ []) l = refl
+  generate_of_less (a ∷ b ∷ []) l = refl
+  generate_of_less (a ∷ b ∷ c ∷ words) l = absurd (omega (arith, l))
+
+  pub generate_of_more : (words : List X) → 4 ≤ length words → None ≡ generate_task (map f words)
+  generate_of_more [] m = absurd (omega (arith, m))
+  generate_of_more (a ∷ []) m = absurd (omega (arith, m))
+  generate_of_more (a ∷ b ∷ []) m = absurd (omega (arith, m))
+  generate_of_more (a ∷ b ∷ c ∷ []) m = absurd (omega (arith, m))
+  generate_of_more (a ∷ b ∷ c ∷ d ∷ words) m = refl
