@@ -23,30 +23,28 @@ SHIM = r"""
 #include <fcntl.h>
 #include <signal.h>
 #include <stdarg.h>
-#include <stdio.h>
 #include <stdlib.h>
-#include <string.h>
+#include <sys/file.h>
+#include <sys/mman.h>
 #include <sys/stat.h>
-#include <sys/uio.h>
+#include <sys/syscall.h>
 #include <unistd.h>
 
-static long count, at;
+/* The count is in a file of one word, so that it is there however the process ends. */
+static long unseen, *count = &unseen, at;
 static char kind;
-static int ready;
 
-static void begin(void) {
-    const char *how = getenv("FAULT_KIND"), *when = getenv("FAULT_AT");
-    ready = 1;
-    if (how && when) { kind = how[0]; at = atol(when); }
+__attribute__((constructor)) static void start(void) {
+    const char *how = getenv("FAULT_KIND"), *when = getenv("FAULT_AT"), *where = getenv("FAULT_COUNT");
+    if (!how || !when || !where) return;
+    int fd = syscall(SYS_openat, AT_FDCWD, where, O_RDWR);
+    void *word = mmap(NULL, sizeof *count, PROT_READ | PROT_WRITE, MAP_SHARED, fd, 0);
+    syscall(SYS_close, fd);
+    if (word == MAP_FAILED) _exit(99);
+    count = word; at = atol(when); kind = how[0];
     if (kind == 's') kind = how[1];  /* h: short, t: stop */
 }
-__attribute__((constructor)) static void start(void) { if (!ready) begin(); count = 0; }
-__attribute__((destructor)) static void end(void) {
-    const char *to = getenv("FAULT_COUNT");
-    FILE *out = to ? (kind = 0, fopen(to, "w")) : 0;
-    if (out) { fprintf(out, "%ld", count); fclose(out); }
-}
-static int hit(void) { if (!ready) begin(); return ++count == at; }
+static int hit(void) { return __atomic_add_fetch(count, 1, __ATOMIC_SEQ_CST) == at; }
 static int no_memory(void) { return kind == 'm' && hit(); }
 /* whether a call on a file goes wrong; moves tells a read or a write of several bytes */
 static int wrong(int moves) {
@@ -67,24 +65,15 @@ ssize_t pread(int fd, void *to, size_t n, off_t o) {
     REAL(pread); int w = wrong(n > 1); return w == 1 ? -1 : real(fd, to, w == 2 ? 1 : n, o); }
 ssize_t pwrite(int fd, const void *from, size_t n, off_t o) {
     REAL(pwrite); int w = wrong(n > 1); return w == 1 ? -1 : real(fd, from, w == 2 ? 1 : n, o); }
-ssize_t pread64(int fd, void *to, size_t n, off64_t o) {
-    REAL(pread64); int w = wrong(n > 1); return w == 1 ? -1 : real(fd, to, w == 2 ? 1 : n, o); }
-ssize_t pwrite64(int fd, const void *from, size_t n, off64_t o) {
-    REAL(pwrite64); int w = wrong(n > 1); return w == 1 ? -1 : real(fd, from, w == 2 ? 1 : n, o); }
-ssize_t writev(int fd, const struct iovec *v, int n) {
-    REAL(writev); int w = wrong(n > 0 && v[0].iov_len > 1);
-    if (w == 2) { struct iovec one = { v[0].iov_base, 1 }; return real(fd, &one, 1); }
-    return w == 1 ? -1 : real(fd, v, n); }
 int fsync(int fd) { REAL(fsync); return wrong(0) ? -1 : real(fd); }
 int fdatasync(int fd) { REAL(fdatasync); return wrong(0) ? -1 : real(fd); }
 int ftruncate(int fd, off_t n) { REAL(ftruncate); return wrong(0) ? -1 : real(fd, n); }
-int ftruncate64(int fd, off64_t n) { REAL(ftruncate64); return wrong(0) ? -1 : real(fd, n); }
-off_t lseek(int fd, off_t o, int w) { REAL(lseek); return wrong(0) ? -1 : real(fd, o, w); }
-off64_t lseek64(int fd, off64_t o, int w) { REAL(lseek64); return wrong(0) ? -1 : real(fd, o, w); }
-int fstat(int fd, struct stat *to) { REAL(fstat); return wrong(0) ? -1 : real(fd, to); }
-int openat(int d, const char *name, int flags, ...) {
-    REAL(openat); va_list v; va_start(v, flags); mode_t m = va_arg(v, mode_t); va_end(v);
-    return wrong(0) ? -1 : real(d, name, flags, m); }
+int flock(int fd, int how) { REAL(flock); return wrong(0) ? -1 : real(fd, how); }
+int fchmod(int fd, mode_t m) { REAL(fchmod); return wrong(0) ? -1 : real(fd, m); }
+int fchown(int fd, uid_t u, gid_t g) { REAL(fchown); return wrong(0) ? -1 : real(fd, u, g); }
+char *realpath(const char *name, char *to) { REAL(realpath); return wrong(0) ? NULL : real(name, to); }
+int statx(int d, const char *name, int flags, unsigned mask, struct statx *to) {
+    REAL(statx); return wrong(0) ? -1 : real(d, name, flags, mask, to); }
 int open(const char *name, int flags, ...) {
     REAL(open); va_list v; va_start(v, flags); mode_t m = va_arg(v, mode_t); va_end(v);
     return wrong(0) ? -1 : real(name, flags, m); }
@@ -129,11 +118,11 @@ class Tries:
     def run(self, network, command, kind="", at=0):
         counted = os.path.join(self.folder, "count")
         env = {"LD_PRELOAD": self.shim, "FAULT_COUNT": counted, "FAULT_KIND": kind, "FAULT_AT": str(at)} if kind else {}
-        if os.path.exists(counted):
-            os.remove(counted)
+        with open(counted, "wb") as out:
+            out.write(bytes(8))
         ran = subprocess.run([PROGRAM, *command.split()], cwd=network, env=env, stdout=subprocess.PIPE, timeout=60)
-        calls = int(open(counted).read()) if os.path.exists(counted) else None
-        return Came(ran.returncode, ran.stdout.decode(), calls)
+        with open(counted, "rb") as it:
+            return Came(ran.returncode, ran.stdout.decode(), int.from_bytes(it.read(), "little"))
 
     def each(self, command, before, kind, judge):
         """Tries each call of a command; gives how often each end came."""
@@ -151,14 +140,18 @@ class Tries:
             shutil.rmtree(now)
             shutil.copytree(start, now)
             came = self.run(now, command, kind, at)
-            if came.calls is not None and came.calls < at:
+            if came.calls < at:
                 return at - 1, ends
             after = [self.run(now, it) for it in (command, RUN)]
             fault = judge(whole, came, after, kind)
             ends[f"status {came.status}, {fault or standing(command, after)}"] += 1
             if fault:
-                print(f"  {command!r} {kind} {at}: {fault}: {came} {after}")
+                print(f"  {command!r} {kind} {at}: {fault}: {brief(came)}, then {[brief(it) for it in after]}")
         raise SystemExit("too many calls")
+
+
+def brief(came):
+    return f"status {came.status}, {came.text[:60]!r}"
 
 
 def tickets(text):
@@ -172,7 +165,8 @@ def standing(command, after):
     return "ticket taken" if min(tickets(after[0].text)) == 1 else "no ticket taken"
 
 
-STATUSES = {"memory": [0, 1, 12], "error": [0, 1, 10], "short": [0], "stop": [-9]}
+# A short read or write is taken up again, or is told as a fault of its object: the counts tell how often.
+STATUSES = {"memory": [0, 1, 12], "error": [0, 1, 10], "short": [0, 10], "stop": [-9]}
 
 
 def judge(whole, came, after, kind):
@@ -212,7 +206,6 @@ def main():
         raise SystemExit("no program in crates/pdn/out: run .ci/run first, or rt run in crates/pdn")
     commands = [(LOAD, []), (RUN, [LOAD, "load b t 0 b.csv"]), (TWIN, [LOAD, "load b t 0 b.csv"])]
     room = "/dev/shm" if os.path.isdir("/dev/shm") else None
-    wrong = 0
     with tempfile.TemporaryDirectory(dir=room) as folder:
         tries = Tries(folder)
         for command, before in commands:

@@ -4,7 +4,8 @@
 Nothing may be lost: a batch that was answered is there in the end, whole and once; no ticket is given twice; a store that another
 process uses is `refused 10 ..` at worst, and is tried again. It wants crates/pdn/out/pdn, as bench/faults.py does.
 """
-import collections, os, re, subprocess, sys, tempfile, threading
+import collections, os, re, subprocess, sys, tempfile, threading, time
+from concurrent.futures import ThreadPoolExecutor
 
 HERE = os.path.dirname(os.path.abspath(__file__))
 PROGRAM = os.path.join(HERE, "..", "crates", "pdn", "out", "pdn")
@@ -21,6 +22,7 @@ def put(folder, name, text):
 class Network:
     def __init__(self, folder):
         self.folder, self.ends, self.tickets = folder, collections.Counter(), []
+        self.lock = threading.Lock()
         put(folder, "net.schema", "version 1\nfloor 3\ntable t rows 256\ncolumn c int private\nend\n")
         put(folder, "q.sql", "SELECT COUNT(*) FROM t;")
         put(folder, "t.csv", "c\n" + "5\n" * ROWS)
@@ -30,11 +32,15 @@ class Network:
         """The text of a command, which is given again where an object outside failed."""
         for _ in range(1000):
             ran = subprocess.run([PROGRAM, *words], cwd=self.folder, stdout=subprocess.PIPE, text=True, timeout=60)
-            self.ends[f"{words[0]} {ran.returncode}" + (f" {ran.stdout.strip()}" if ran.returncode else "")] += 1
-            self.tickets += [int(it) for it in re.findall(r"ticket (\d+)", ran.stdout)]
-            if ran.returncode != 10:
+            with self.lock:
+                self.ends[f"{words[0]} {ran.returncode}" + (f" {ran.stdout.strip()}" if ran.returncode else "")] += 1
+                self.tickets += [int(it) for it in re.findall(r"ticket (\d+)", ran.stdout)]
+            if ran.returncode == 0:
                 return ran.stdout
-        raise SystemExit(f"{words} is refused for ever")
+            if ran.returncode != 10:
+                raise RuntimeError(f"{words}: status {ran.returncode}, {ran.stdout!r}")
+            time.sleep(0.005)
+        raise RuntimeError(f"{words} is refused for ever")
 
     def work(self, number):
         for batch in range(number * BATCHES, (number + 1) * BATCHES):
@@ -48,11 +54,9 @@ def main():
         raise SystemExit("no program in crates/pdn/out: run .ci/run first, or rt run in crates/pdn")
     with tempfile.TemporaryDirectory() as folder:
         network = Network(folder)
-        workers = [threading.Thread(target=network.work, args=(it,)) for it in range(PROCESSES)]
-        for it in workers:
-            it.start()
-        for it in workers:
-            it.join()
+        with ThreadPoolExecutor(PROCESSES) as workers:
+            # What a worker raises is raised here.
+            list(workers.map(network.work, range(PROCESSES)))
         count = int(network.ask("run", "q.sql", "1").split("\n")[2])
         wanted = 2 * PROCESSES * BATCHES * ROWS
         again = sum("again" in network.ask("load", site, "t", str(it), "t.csv") for site in "ab" for it in range(PROCESSES * BATCHES))

@@ -1,49 +1,10 @@
 //! The desk's store.
-use crate::disks::{Disks, closed, crashed, disks, opened};
+use crate::disks::{Disks, closed, disks, opened};
 use pdn_desk_keeper::{DeskKeeper, Kept};
 use pdn_keeper::KeepErr;
 use pdn_store::SqliteDesk;
 use std::alloc::Global;
 use std::test::Fail;
-
-/// One more than the last of three tickets that were answered, or 0, and the disks after them.
-fn three_tickets(alloc: Global, files: Disks) -> (u64, Option<Disks>) {
-    let conn = match opened(alloc, files) {
-        Ok(conn) => conn,
-        Err(files) => return (0, Some(files)),
-    };
-    let mut desk = SqliteDesk::adopt(conn);
-    let mut after = 0;
-    for _ in 0..3 {
-        if let Ok(ticket) = desk.ticket(alloc) {
-            after = ticket.saturating_add(1);
-        }
-    }
-    (after, closed(desk.into_connection()))
-}
-
-/// The ticket that is given once the machine has come back.
-fn ticket_after(alloc: Global, files: Disks) -> Option<u64> {
-    let conn = opened(alloc, crashed(files)).ok()?;
-    SqliteDesk::adopt(conn).ticket(alloc).ok()
-}
-
-/// Stops at each call of the disks: a ticket that was answered is never given again, and a stopped call takes at most one.
-#[test]
-fn a_stop_leaves_the_next_ticket_or_takes_one(rt: HostRuntime) -> Result<(), Fail> {
-    let alloc = rt.alloc();
-    for calls in 0..60u64 {
-        let (after, files) = three_tickets(alloc, disks(alloc, calls));
-        let next = ticket_after(alloc, files.ok_or("the disks are there")?).ok_or("it opens")?;
-        assert!(rt;
-            after <= next && next <= after.saturating_add(1),
-            "{calls} {after} {next}"
-        );
-    }
-    let (after, _) = three_tickets(alloc, disks(alloc, u64::MAX));
-    assert_eq!(rt; after, 3);
-    Ok(())
-}
 
 /// A call of a caller, with what it answers: how many numbers are kept, and the texts that are kept of the number 7.
 const KEPT: &[(u32, u64, &str)] = &[
@@ -81,7 +42,7 @@ fn keep(alloc: Global, files: Disks, caller: u32, number: u64) -> Result<(String
 #[test]
 fn a_call_is_kept_once_and_found_again(rt: HostRuntime) -> Result<(), Fail> {
     let alloc = rt.alloc();
-    let mut files = disks(alloc, u64::MAX);
+    let mut files = disks(alloc, u64::MAX)?;
     for (caller, number, wanted) in KEPT {
         let (said, after) = keep(alloc, files, *caller, *number)?;
         assert_eq!(rt; said.as_str(), *wanted);

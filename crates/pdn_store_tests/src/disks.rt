@@ -1,25 +1,35 @@
-//! Databases on disks in memory, which fail from a call on.
+//! Databases on disks in memory, whose machine stops at a call.
+use crate::stopping::{Loss, Stopping};
 use sqlite::{Connection, FileStore, Files, Options};
-use sqlite_disk::{Crash, Fuse, Memory};
+use sqlite_disk::Memory;
 use std::alloc::Global;
+use std::cell::Cell;
+use std::rc::Rc;
+use std::test::Fail;
 
-pub(crate) type Store = FileStore<Fuse<Memory>>;
+pub(crate) type Store = FileStore<Stopping<Memory>>;
 
-pub(crate) type Disks = Files<Fuse<Memory>>;
+pub(crate) type Disks = Files<Stopping<Memory>>;
 
-/// Empty disks, each of which fails after so many calls.
-pub(crate) fn disks(alloc: Global, calls: u64) -> Disks {
-    Files {
-        log: Fuse::new(Memory::new(alloc), calls),
-        db: Fuse::new(Memory::new(alloc), calls),
-    }
+/// Empty disks of a machine that stops after so many calls.
+pub(crate) fn disks(alloc: Global, calls: u64) -> Result<Disks, Fail> {
+    let left = Rc::new(alloc, Cell::new(calls))?;
+    let same = left.clone()?;
+    Ok(Files {
+        log: Stopping::new(Memory::new(alloc), left),
+        db: Stopping::new(Memory::new(alloc), same),
+    })
 }
 
-/// The disks after the machine has stopped and come back; they fail no more.
-pub(crate) fn crashed(mut files: Disks) -> Disks {
-    files.log.crash();
-    files.db.crash();
-    files
+/// The disks of the machine once it has come back; it stops after so many calls.
+pub(crate) fn back(alloc: Global, files: Disks, loss: Loss, calls: u64) -> Result<Disks, Fail> {
+    let left = Rc::new(alloc, Cell::new(calls))?;
+    let same = left.clone()?;
+    let Files { log, db } = files;
+    Ok(Files {
+        log: log.back(loss, left),
+        db: db.back(loss, same),
+    })
 }
 
 /// A connection to what is on the disks, or the disks.

@@ -2,6 +2,8 @@
 #![tactic(auto)]
 
 #[cfg(test)]
+mod bounds;
+#[cfg(test)]
 mod desk;
 #[cfg(test)]
 mod disks;
@@ -9,3 +11,7 @@ mod disks;
 mod form;
 #[cfg(test)]
 mod site;
+#[cfg(test)]
+mod stopping;
+#[cfg(test)]
+mod stops;

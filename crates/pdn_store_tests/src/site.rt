@@ -99,7 +99,7 @@ fn stored(
 #[test]
 fn a_batch_is_answered_as_in_memory_and_read_again(rt: HostRuntime) -> Result<(), Fail> {
     let alloc = rt.alloc();
-    let mut files = disks(alloc, u64::MAX);
+    let mut files = disks(alloc, u64::MAX)?;
     let mut site = MemSite::new(Vec::new(alloc), Vec::new(alloc));
     for (batch, days, wanted) in BATCHES {
         let (told, in_memory) = answer(alloc, &mut site, *batch, days)?;
