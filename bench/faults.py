@@ -6,7 +6,7 @@ A library that is loaded in front of the C library counts the program's calls, a
   error   fails a call on a file (EIO),
   short   moves one byte of a read or a write of several,
   stop    ends the process before a call on a file.
-After each run the same command is given again with nothing going wrong. What it prints must be what a whole command or none leaves,
+A kind with a number behind it, as in memory/10, takes one in so many calls. After each run the same command is given again with nothing going wrong. What it prints must be what a whole command or none leaves,
 and no ticket may come twice. It wants crates/pdn/out/pdn, which the gate (.ci/run) or `rt run` in crates/pdn builds, and a C compiler.
 """
 import collections, os, re, shutil, subprocess, sys, tempfile
@@ -124,8 +124,8 @@ class Tries:
         with open(counted, "rb") as it:
             return Came(ran.returncode, ran.stdout.decode(), int.from_bytes(it.read(), "little"))
 
-    def each(self, command, before, kind, judge):
-        """Tries each call of a command; gives how often each end came."""
+    def each(self, command, before, kind, every, judge):
+        """Tries each call of a command, or one in so many; gives how many calls there are and how often each end came."""
         start, now, ends = (os.path.join(self.folder, it) for it in ["start", "now", "ends"])
         shutil.rmtree(start, ignore_errors=True)
         network(start)
@@ -136,12 +136,12 @@ class Tries:
         whole = self.run(now, command)
         assert whole.status == 0, whole
         ends = collections.Counter()
-        for at in range(1, MOST):
+        for at in range(1, MOST, every):
             shutil.rmtree(now)
             shutil.copytree(start, now)
             came = self.run(now, command, kind, at)
             if came.calls < at:
-                return at - 1, ends
+                return came.calls, ends
             after = [self.run(now, it) for it in (command, RUN)]
             fault = judge(whole, came, after, kind)
             ends[f"status {came.status}, {fault or standing(command, after)}"] += 1
@@ -209,8 +209,9 @@ def main():
     with tempfile.TemporaryDirectory(dir=room) as folder:
         tries = Tries(folder)
         for command, before in commands:
-            for kind in sys.argv[1:] or KINDS:
-                calls, ends = tries.each(command, before, kind, judge)
+            for word in sys.argv[1:] or KINDS:
+                kind, _, every = word.partition("/")
+                calls, ends = tries.each(command, before, kind, int(every or 1), judge)
                 print(f"{command}: {kind}, {calls} calls: " + "; ".join(f"{n} {end}" for end, n in sorted(ends.items())), flush=True)
 
 

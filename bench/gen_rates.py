@@ -126,7 +126,7 @@ def in_plain(patients):
     a, b = rows(patients)
     script = "CREATE TABLE diag(pid INT, code TEXT, day INT);\n"
     script += "".join(f"INSERT INTO diag VALUES({p},'{code}',{day});\n" for p, code, day in a + b)
-    script += ".timer on\n" + QUERIES
+    script += ".timer on\n" + QUERIES.replace("ORDER BY pid", "ORDER BY a.pid")
     text = subprocess.run(["sqlite3", ":memory:"], input=script, stdout=subprocess.PIPE, text=True).stdout
     return sum(float(n) for n in re.findall(r"Run Time: real ([0-9.]+)", text))
 
